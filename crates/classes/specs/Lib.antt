@@ -1,0 +1,7 @@
+pub mod Category
+pub mod ClusterBreak
+pub mod MyanmarClass
+pub mod Scalar
+pub mod Shape
+pub mod UseClass
+pub mod WordBreak
