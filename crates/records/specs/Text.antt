@@ -1,0 +1,94 @@
+-- The lent text of document 01: "a set of lent columns of one length" for the records, "a second set of columns" for the parts.
+use Prim.Native.Nat.{ℕ}
+use mathlib.Core.List.{List, [], _∷_}
+use lib.ListN.{length, getD}
+use Rattle.records.specs.declared.Row.{Row}
+use Rattle.records.specs.declared.PartRow.{PartRow}
+
+pub record Records : Type 0 where
+  pub scalars : List ℕ
+  pub breaks : List ℕ
+  pub uses : List ℕ
+  pub myanmars : List ℕ
+  pub categories : List ℕ
+  pub words : List ℕ
+  -- the emoji marks of the simple, the Myanmar and the complex parser
+  pub semojis : List ℕ
+  pub memojis : List ℕ
+  pub cemojis : List ℕ
+  pub pictographs : List ℕ
+  pub selectors : List ℕ
+  pub decomposes : List ℕ
+  pub firsts : List ℕ
+  pub counts : List ℕ
+
+pub record Parts : Type 0 where
+  pub pscalars : List ℕ
+  pub pbreaks : List ℕ
+  pub puses : List ℕ
+  pub pcategories : List ℕ
+
+pub record Text : Type 0 where
+  pub records : Records
+  pub parts : Parts
+
+-- the text of the 18 columns, in the order in which every function takes them
+abbrev pub textOf : List ℕ → List ℕ → List ℕ → List ℕ → List ℕ → List ℕ → List ℕ → List ℕ → List ℕ → List ℕ → List ℕ → List ℕ → List ℕ → List ℕ → List ℕ → List ℕ → List ℕ → List ℕ → Text
+textOf scalars breaks uses myanmars categories words semojis memojis cemojis pictographs selectors decomposes firsts counts pscalars pbreaks puses pcategories =
+    record {
+      records = record {
+        scalars = scalars;
+        breaks = breaks;
+        uses = uses;
+        myanmars = myanmars;
+        categories = categories;
+        words = words;
+        semojis = semojis;
+        memojis = memojis;
+        cemojis = cemojis;
+        pictographs = pictographs;
+        selectors = selectors;
+        decomposes = decomposes;
+        firsts = firsts;
+        counts = counts;
+      };
+      parts = record { pscalars = pscalars; pbreaks = pbreaks; puses = puses; pcategories = pcategories };
+    }
+
+-- what stands at an index of a column
+abbrev pub cell : List ℕ → ℕ → ℕ
+cell column i = getD column i 0
+
+abbrev pub recordLengths : Records → List ℕ
+recordLengths r =
+    length (r .scalars) ∷ length (r .breaks) ∷ length (r .uses) ∷ length (r .myanmars) ∷ length (r .categories)
+    ∷ length (r .words) ∷ length (r .semojis) ∷ length (r .memojis) ∷ length (r .cemojis) ∷ length (r .pictographs)
+    ∷ length (r .selectors) ∷ length (r .decomposes) ∷ length (r .firsts) ∷ length (r .counts) ∷ []
+
+abbrev pub partLengths : Parts → List ℕ
+partLengths p = length (p .pscalars) ∷ length (p .pbreaks) ∷ length (p .puses) ∷ length (p .pcategories) ∷ []
+
+-- the cells of one record, and of one part
+abbrev pub rowOf : Records → ℕ → Row
+rowOf r i =
+    record {
+      scalar = cell (r .scalars) i;
+      brk = cell (r .breaks) i;
+      uclass = cell (r .uses) i;
+      mclass = cell (r .myanmars) i;
+      category = cell (r .categories) i;
+      word = cell (r .words) i;
+      semoji = cell (r .semojis) i;
+      memoji = cell (r .memojis) i;
+      cemoji = cell (r .cemojis) i;
+      pictograph = cell (r .pictographs) i;
+      selector = cell (r .selectors) i;
+      decompose = cell (r .decomposes) i;
+      first = cell (r .firsts) i;
+      count = cell (r .counts) i;
+    }
+
+abbrev pub partOf : Parts → ℕ → PartRow
+partOf p i =
+    record
+    { scalar = cell (p .pscalars) i; brk = cell (p .pbreaks) i; uclass = cell (p .puses) i; category = cell (p .pcategories) i }
