@@ -1,3 +1,4 @@
+pub mod Accepted
 pub mod Any
 pub mod Chain
 pub mod Over

@@ -1,0 +1,106 @@
+// Columns of one length, and one column of another.
+use crate::verdicts;
+use crate::verdicts::write;
+use records::Parser;
+use records::Verdict;
+
+// The length of a column: `other` for the one that is counted, `usual` for the rest, and never more than there is.
+fn length(column: u8, k: u8, other: usize, usual: usize) -> usize {
+    if column == k {
+        return other;
+    }
+    usual
+}
+
+fn cut8(s: &[u8], n: usize) -> &[u8] {
+    if n <= s.len() { &s[..n] } else { s }
+}
+
+fn cut16(s: &[u16], n: usize) -> &[u16] {
+    if n <= s.len() { &s[..n] } else { s }
+}
+
+fn cut32(s: &[u32], n: usize) -> &[u32] {
+    if n <= s.len() { &s[..n] } else { s }
+}
+
+fn check(b: &[u8], h: &[u16], w: &[u32], k: u8, other: usize, usual: usize) -> Verdict {
+    records::check(
+        Parser::Khmer,
+        cut32(w, length(0, k, other, usual)),
+        cut8(b, length(1, k, other, usual)),
+        cut8(b, length(2, k, other, usual)),
+        cut8(b, length(3, k, other, usual)),
+        cut8(b, length(4, k, other, usual)),
+        cut8(b, length(5, k, other, usual)),
+        cut8(b, length(6, k, other, usual)),
+        cut8(b, length(7, k, other, usual)),
+        cut8(b, length(8, k, other, usual)),
+        cut8(b, length(9, k, other, usual)),
+        cut8(b, length(10, k, other, usual)),
+        cut8(b, length(11, k, other, usual)),
+        cut16(h, length(12, k, other, usual)),
+        cut8(b, length(13, k, other, usual)),
+        cut32(w, length(14, k, other, usual)),
+        cut8(b, length(15, k, other, usual)),
+        cut8(b, length(16, k, other, usual)),
+        cut8(b, length(17, k, other, usual)),
+    )
+}
+
+// One sign for each of the 18 columns, and one more where none is of another length.
+fn each_column(b: &[u8], h: &[u16], w: &[u32], other: usize, usual: usize) {
+    verdicts::decimal(other as u64);
+    write(b" among ");
+    verdicts::decimal(usual as u64);
+    write(b" ");
+    for k in 0..19u8 {
+        verdicts::sign(check(b, h, w, k, other, usual));
+    }
+    write(b"\n");
+}
+
+pub fn columns() {
+    let b = [0u8; 4097];
+    let h = [0u16; 4097];
+    let w = [0u32; 4097];
+    each_column(&b, &h, &w, 0, 0);
+    each_column(&b, &h, &w, 1, 0);
+    each_column(&b, &h, &w, 0, 1);
+    each_column(&b, &h, &w, 4095, 4096);
+    each_column(&b, &h, &w, 4096, 4096);
+    each_column(&b, &h, &w, 4097, 4096);
+    each_column(&b, &h, &w, 4097, 4097);
+}
+
+fn word_columns(b: &[u8], words: usize, pictographs: usize) {
+    verdicts::decimal(words as u64);
+    write(b" and ");
+    verdicts::decimal(pictographs as u64);
+    verdicts::verdict(records::check_words(cut8(b, words), cut8(b, pictographs)));
+    write(b"\n");
+}
+
+fn word_cells(class: u8, pictograph: u8) {
+    verdicts::decimal(class as u64);
+    write(b",");
+    verdicts::decimal(pictograph as u64);
+    verdicts::verdict(records::check_words(&[0, class], &[0, pictograph]));
+    write(b"\n");
+}
+
+pub fn words() {
+    let b = [0u8; 4097];
+    word_columns(&b, 0, 0);
+    word_columns(&b, 4096, 4096);
+    word_columns(&b, 4097, 4097);
+    word_columns(&b, 4097, 4096);
+    word_columns(&b, 4096, 4097);
+    word_columns(&b, 1, 0);
+    word_columns(&b, 0, 1);
+    word_cells(0, 0);
+    word_cells(18, 1);
+    word_cells(19, 0);
+    word_cells(0, 2);
+    word_cells(255, 255);
+}

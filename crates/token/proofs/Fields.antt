@@ -1,0 +1,28 @@
+-- A packed token gives its fields back, where each fits: so a column of tokens says what the lent columns say.
+-- Assumes nothing.
+use Prim.Native.Nat.{ℕ, _<_, _+_, _*_, _/_, _%_}
+use mathlib.Core.Path.{_≡_}
+use native.Mathlib.Omega.{arith}
+use Rattle.token.specs.Token.{scalarOf, kindOf, breakOf, categoryOf, emojiOf, selectorOf, indexOf, packed}
+
+module _ (scalar kind brk category emoji selector index : ℕ) where
+  pub scalar-packed : scalar < 0x20_0000 → scalarOf (packed scalar kind brk category emoji selector index) ≡ scalar
+  scalar-packed h = omega arith
+
+  pub kind-packed : kind < 64 → kindOf (packed scalar kind brk category emoji selector index) ≡ kind
+  kind-packed h = omega arith
+
+  pub break-packed : brk < 16 → breakOf (packed scalar kind brk category emoji selector index) ≡ brk
+  break-packed h = omega arith
+
+  pub category-packed : category < 4 → categoryOf (packed scalar kind brk category emoji selector index) ≡ category
+  category-packed h = omega arith
+
+  pub emoji-packed : emoji < 2 → emojiOf (packed scalar kind brk category emoji selector index) ≡ emoji
+  emoji-packed h = omega arith
+
+  pub selector-packed : selector < 2 → selectorOf (packed scalar kind brk category emoji selector index) ≡ selector
+  selector-packed h = omega arith
+
+  pub index-packed : index < 4096 → indexOf (packed scalar kind brk category emoji selector index) ≡ index
+  index-packed h = omega arith
