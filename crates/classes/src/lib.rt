@@ -1,5 +1,5 @@
-// The named codes of document 01: the five lists of classes, the classes that a pushed character gets, and the scalars that
-// the parsers name.
+// The named values of document 01: the five lists of classes, the classes that a pushed character gets, the scalars that the parsers
+// name, and the two modes.
 pub mod category;
 pub mod cluster_break;
 pub mod myanmar_class;
@@ -9,6 +9,12 @@ pub mod word_break;
 
 ghost use mathlib.Core.Path.{_≡_};
 ghost use Rattle.classes.specs.Shape.{shapeCode};
+
+// "In crate mode document 000 decides"; whole mode is our own and repeats no character.
+pub enum Mode {
+    Crate,
+    Whole,
+}
 
 // The class of a pushed character: the `ShapeClass` of the three Rust parsers.
 pub enum Shape {
