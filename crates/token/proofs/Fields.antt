@@ -26,3 +26,25 @@ module _ (scalar kind brk category emoji selector index : ℕ) where
 
   pub index-packed : index < 4096 → indexOf (packed scalar kind brk category emoji selector index) ≡ index
   index-packed h = omega arith
+
+-- what a token says, all at once
+pub record Says (token scalar kind brk category emoji selector index : ℕ) : Type 0 where
+  pub its-scalar : scalarOf token ≡ scalar
+  pub its-kind : kindOf token ≡ kind
+  pub its-break : breakOf token ≡ brk
+  pub its-category : categoryOf token ≡ category
+  pub its-emoji : emojiOf token ≡ emoji
+  pub its-selector : selectorOf token ≡ selector
+  pub its-index : indexOf token ≡ index
+
+pub packed-says : (scalar kind brk category emoji selector index : ℕ) → scalar < 0x20_0000 → kind < 64 → brk < 16 → category < 4 → emoji < 2 → selector < 2 → index < 4096 → Says (packed scalar kind brk category emoji selector index) scalar kind brk category emoji selector index
+packed-says x k b c e s i hx hk hb hc he hs hi =
+    record {
+      its-scalar = scalar-packed x k b c e s i hx;
+      its-kind = kind-packed x k b c e s i hk;
+      its-break = break-packed x k b c e s i hb;
+      its-category = category-packed x k b c e s i hc;
+      its-emoji = emoji-packed x k b c e s i he;
+      its-selector = selector-packed x k b c e s i hs;
+      its-index = index-packed x k b c e s i hi;
+    }
