@@ -1,0 +1,4 @@
+pub mod Loop
+pub mod Moves
+pub mod Runs
+pub mod Rules

@@ -1,0 +1,23 @@
+-- `parse::Parse::category_is` meets its contract. Assumes nothing.
+use borrow.Author.Needs.{needs}
+use Rattle.parse.proofs.Parse.category_is.Statement.{statement}
+use Rattle.parse.proofs.Parse.category_is.Tie as tie
+
+token-at-requires : tie.Need-token-at-requires
+token-at-requires c κs = search needs
+
+category-requires : tie.Need-category-requires
+category-requires c κs = search needs
+
+going-requires : tie.Need-going-requires
+going-requires c κs = search needs
+
+returns : tie.Need-returns
+returns c = simp (← c .before .going .ensures, c .if1 .taken, c .before .before .category .ensures, c .before .before .before .token-at .ensures)
+
+returns-2 : tie.Need-returns-2
+returns-2 c = simp (← c .before .going .ensures, c .if1 .left)
+
+pub category-is-spec : {M : Type 1} → statement M
+category-is-spec =
+    tie.close (tie.spec token-at-requires category-requires going-requires returns returns-2)
