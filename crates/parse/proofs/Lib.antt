@@ -1,4 +1,5 @@
 pub mod Loop
 pub mod Moves
+pub mod Keeps
 pub mod Runs
 pub mod Rules

@@ -1,11 +1,11 @@
--- One push, one note and one step: none goes back, each takes from the turns left, and the room left falls where a step and a push
--- call each other over U+034F. Assumes nothing.
+-- One push, one note and one step: each takes from the turns left, and the room left falls where a step and a push call each other
+-- over U+034F. Assumes nothing.
 use Prim.Native.Nat.{ℕ, zero, suc, _+_, _-_, _<_, _≤_, _*_, max}
 use mathlib.Core.Path.{_≡_, refl, sym, _∙_, ap}
 use mathlib.Core.Bool.{Bool, true, false, cond}
 use mathlib.Core.List.{List}
 use native.Mathlib.Omega.{arith}
-use native.Mathlib.Nat.{le-refl, le-trans, lt-trans, le-of-eq}
+use native.Mathlib.Nat.{le-refl, lt-trans}
 use lib.Dec.{ltb}
 use lib.ListN.{length}
 use borrow.Author.Tests.{ltb-true, ltb-false}
@@ -37,7 +37,7 @@ place-lt n i h = go (ltb i n) refl h
 pub place-le : (n i : ℕ) → i ≤ placeAfter n i
 place-le n i = if-intro (λ k. i ≤ k) (ltb i n) _ _ (λ h. omega arith) (λ h. omega arith)
 
-filled-le : (m : Mode) (n i : ℕ) → i ≤ filledAt m n i
+pub filled-le : (m : Mode) (n i : ℕ) → i ≤ filledAt m n i
 filled-le Crate n i = le-refl _
 filled-le Whole n i = place-le n i
 
@@ -51,7 +51,7 @@ module _ (R : Parse → Type 0) (n : ℕ) (s : Parse) where
       (λ h. full (ltb-false _ _ h))
 
 -- a step goes forward
-moved-at : (n : ℕ) (s : Parse) → s .at ≤ (movedOf n s) .at
+pub moved-at : (n : ℕ) (s : Parse) → s .at ≤ (movedOf n s) .at
 moved-at n s = moved-case (λ q. s .at ≤ q .at) n s (λ l h. omega arith) (λ l h. le-refl _) (λ l. filled-le (s .mode) n (s .at))
 
 moved-turns : (text : List ℕ) (s : Parse) → going s ≡ true → turns text (movedOf (length text) s) < turns text s
@@ -93,23 +93,7 @@ moved-room n s = moved-case (λ q. going q ≡ true → (s .len < 32) × (q .len
 pub joiner-room : (text : List ℕ) (s m : Parse) → m ≡ movedOf (length text) s → onJoiner text m ≡ true → max 1 (2 * (32 - m .len) - 1) < 2 * (32 - s .len)
 joiner-room text s m e h = let r = moved-room (length text) s (rw e at (joiner-going text m h)) in rw e (omega (arith, r .0, r .1))
 
--- the place does not go back, and the turns left fall: step, push, note
-hop-at : (text : List ℕ) (s : Parse) → s .at ≤ (hop text s) .at
-hop-at text s = let t = tokenAt text (s .at) in
-    le-trans (le-of-eq (sym (put-same (λ q. q .at) (λ n cs q. refl) t s Other))) (moved-at (length text) (putOf t Other s))
-
-step-at : (text : List ℕ) (s : Parse) → s .at ≤ (stepOf text s) .at
-unfolding stepOf
-step-at text s = loop-keeps text (onJoiner text) (hop text) (λ q. s .at ≤ q .at) (λ q i h. le-trans i (hop-at text q)) _ (moved-at (length text) s)
-
-pub push-at : (text : List ℕ) (c : Shape) (s : Parse) → s .at ≤ (pushOf text c s) .at
-unfolding pushOf
-push-at text c s = let t = tokenAt text (s .at) in le-trans (le-of-eq (sym (put-same (λ q. q .at) (λ n cs q. refl) t s c))) (step-at text (putOf t c s))
-
-pub note-at : (text : List ℕ) (s : Parse) → s .at ≤ (noteOf text s) .at
-unfolding noteOf
-note-at text s = let t = tokenAt text (s .at) in le-trans (le-of-eq (sym (noted-same (λ q. q .at) (λ n cs q. refl) t s))) (step-at text (notedOf t s))
-
+-- the turns left fall: step, push, note
 step-turns : (text : List ℕ) (s : Parse) → going s ≡ true → turns text (stepOf text s) < turns text s
 unfolding stepOf
 step-turns text s g = loop-keeps text (onJoiner text) (hop text) (λ q. turns text q < turns text s)

@@ -1,5 +1,5 @@
--- Laws of every rule, by induction over the grammar: a parse that does not go on is unchanged, the place never goes back, a rule that
--- begins with a push passes a token or ends the flow, and a `while` of such a rule unrolls. Assumes nothing.
+-- Laws of every rule, by induction over the grammar: a parse that does not go on is unchanged, a rule that begins with a push passes a
+-- token or ends the flow, and a `while` of such a rule unrolls. Assumes nothing.
 use Prim.Native.Nat.{ℕ, zero, suc, _+_, _-_, _<_, _≤_}
 use mathlib.Core.Path.{_≡_, refl, sym, _∙_, ap}
 use mathlib.Core.Bool.{Bool, true, false, cond}
@@ -12,7 +12,8 @@ use Rattle.parse.specs.declared.Parse.{Parse}
 use Rattle.parse.specs.State.{tokenAt, loop, turns, going, passesEnd, retriedOf, pushOf, noteOf}
 use Rattle.parse.specs.Rule.{Test, Rule, skip, stop, push, note, mark, seq, choose, while, part, thrice, run, takeOf, thriceOf, holds}
 use Rattle.parse.proofs.Loop.{false-true, if-intro, if-same, by-test, Falls, loop-goes, loop-stays, loop-keeps}
-use Rattle.parse.proofs.Moves.{push-at, note-at, push-turns, note-turns}
+use Rattle.parse.proofs.Moves.{push-turns, note-turns}
+use Rattle.parse.proofs.Keeps.{run-at}
 
 -- not going means unchanged
 pub run-still : (r : Rule) (text : List ℕ) (s : Parse) → going s ≡ false → run r text s ≡ s
@@ -28,32 +29,7 @@ run-still (while p a) text s g = loop-stays text (holds text p) (run a text) s (
 run-still (part a) text s g = rw g
 run-still (thrice c) text s g = rw g
 
-take-at : (text : List ℕ) (c : Shape) (s : Parse) → s .at ≤ (takeOf text c s) .at
-take-at text c s = if-intro (λ (q : Parse). s .at ≤ q .at) (going s) _ _ (λ g. push-at text c s) (λ g. le-refl _)
-
-thrice-at : (text : List ℕ) (c : Shape) (s : Parse) → s .at ≤ (thriceOf text c s) .at
-unfolding thriceOf
-thrice-at text c s = le-trans (take-at text c s) (le-trans (take-at text c (takeOf text c s)) (take-at text c (takeOf text c (takeOf text c s))))
-
-retried-at : (s : Parse) → (retriedOf s) .at ≡ s .at
-retried-at s = if-same (λ (q : Parse). q .at) (passesEnd (s .mode) (s .flow) (s .again)) _ s (s .at) refl refl
-
--- the place never goes back
-pub run-at : (r : Rule) (text : List ℕ) (s : Parse) → s .at ≤ (run r text s) .at
-unfolding run
-run-at skip text s = le-refl _
-run-at stop text s = if-intro (λ (q : Parse). s .at ≤ q .at) (going s) _ _ (λ g. le-refl _) (λ g. le-refl _)
-run-at (push f) text s = if-intro (λ (q : Parse). s .at ≤ q .at) (going s) _ _ (λ g. push-at text (f (tokenAt text (s .at))) s) (λ g. le-refl _)
-run-at note text s = if-intro (λ (q : Parse). s .at ≤ q .at) (going s) _ _ (λ g. note-at text s) (λ g. le-refl _)
-run-at (mark f) text s = if-intro (λ (q : Parse). s .at ≤ q .at) (going s) _ _ (λ g. le-refl _) (λ g. le-refl _)
-run-at (seq a b) text s = le-trans (run-at a text s) (run-at b text (run a text s))
-run-at (choose p a b) text s = if-intro (λ (q : Parse). s .at ≤ q .at) (holds text p s) _ _ (λ g. run-at a text s) (λ g. run-at b text s)
-run-at (while p a) text s = loop-keeps text (holds text p) (run a text) (λ q. s .at ≤ q .at) (λ q i h. le-trans i (run-at a text q)) s (le-refl _)
-run-at (part a) text s = if-intro (λ (q : Parse). s .at ≤ q .at) (going s) _ _ (λ g. run-at a text s) (λ g. le-refl _)
-run-at (thrice c) text s = if-intro (λ (q : Parse). s .at ≤ q .at) (going s) _ _
-    (λ g. rw (retried-at (thriceOf text c s)) (thrice-at text c s)) (λ g. le-refl _)
-
--- so the turns left do not grow
+-- the turns left do not grow
 turns-at : (text : List ℕ) (s q : Parse) → going s ≡ true → s .at ≤ q .at → turns text q ≤ turns text s
 turns-at text s q g l = rw g (if-intro (λ k. k ≤ suc (length text - s .at)) (going q) _ _ (λ h. omega arith) (λ h. omega arith))
 
