@@ -3,3 +3,5 @@ pub mod Moves
 pub mod Keeps
 pub mod Runs
 pub mod Rules
+pub mod Covered
+pub mod Conserve
