@@ -5,3 +5,4 @@ pub mod Runs
 pub mod Rules
 pub mod Covered
 pub mod Conserve
+pub mod Agree

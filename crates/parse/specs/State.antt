@@ -72,6 +72,9 @@ withDone s = record { at = s .at; done = true; again = s .again; flow = s .flow;
 abbrev pub withAgain : Parse → Parse
 withAgain s = record { at = s .at; done = s .done; again = true; flow = s .flow; mode = s .mode; joins = s .joins; len = s .len; chars = s .chars; info = s .info }
 
+abbrev pub inMode : Mode → Parse → Parse
+inMode m s = record { at = s .at; done = s .done; again = s .again; flow = s .flow; mode = m; joins = s .joins; len = s .len; chars = s .chars; info = s .info }
+
 abbrev pub isGoing : Flow → Bool
 isGoing GoOn = true
 isGoing Stop = false
