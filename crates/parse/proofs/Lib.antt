@@ -6,3 +6,4 @@ pub mod Rules
 pub mod Covered
 pub mod Conserve
 pub mod Agree
+pub mod Fills

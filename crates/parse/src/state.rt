@@ -172,7 +172,7 @@ impl Parse {
         ensures { λ r. ⌜ r ≡ notedOf t self ⌝ }
     {
         let n = self.len;
-        if n <= 0 {
+        if n == 0 {
             return self.put(t, Shape::Other);
         }
         if n < 33 {

@@ -1,15 +1,25 @@
 -- `parse::Parse::noted` meets its contract. Assumes nothing.
 use borrow.Author.Tests.{lt-ltb, le-ltb}
-use mathlib.Core.Path.{_∙_}
+use Prim.Native.Nat.{ℕ}
+use mathlib.Core.Path.{_≡_, _∙_}
+use mathlib.Core.Bool.{true, false}
+use lib.Dec.{ltb}
+use native.Mathlib.Omega.{arith}
 use borrow.Author.Needs.{needs}
 use Rattle.parse.proofs.Parse.noted.Statement.{statement}
 use Rattle.parse.proofs.Parse.noted.Tie as tie
+
+none-ltb : (n : ℕ) → n ≡ 0 → ltb 0 n ≡ false
+none-ltb n e = le-ltb 0 n (omega arith)
+
+some-ltb : (n : ℕ) → (n ≡ 0 → ⊥) → ltb 0 n ≡ true
+some-ltb n e = lt-ltb 0 n (omega arith)
 
 put-requires : tie.Need-put-requires
 put-requires c κs = search needs
 
 returns : tie.Need-returns
-returns c = c .put .ensures ∙ simp (le-ltb _ _ (c .before .if1 .taken))
+returns c = c .put .ensures ∙ simp (none-ltb _ (c .before .if1 .taken))
 
 sub-i : tie.Need-sub-i
 sub-i c = search needs
@@ -30,10 +40,10 @@ element-set-from-self : tie.Need-element-set-from-self
 element-set-from-self c = search needs
 
 returns-2 : tie.Need-returns-2
-returns-2 c = simp (lt-ltb _ _ (c .before .before .before .if1 .left), lt-ltb _ _ (c .before .before .if2 .taken), c .one-more .ensures)
+returns-2 c = simp (some-ltb _ (c .before .before .before .if1 .left), lt-ltb _ _ (c .before .before .if2 .taken), c .one-more .ensures)
 
 returns-3 : tie.Need-returns-3
-returns-3 c = simp (lt-ltb _ _ (c .before .if1 .left), le-ltb _ _ (c .if2 .left))
+returns-3 c = simp (some-ltb _ (c .before .if1 .left), le-ltb _ _ (c .if2 .left))
 
 pub noted-spec : {M : Type 1} → statement M
 noted-spec =
