@@ -10,15 +10,14 @@ use Rattle.classes.specs.declared.Shape.{Shape}
 use Rattle.classes.specs.declared.Shape.the-variants.{Other}
 use Rattle.parse.specs.declared.Parse.{Parse}
 use Rattle.parse.specs.declared.Place.{Place}
-use Rattle.parse.specs.declared.Mode.{Mode}
 use Rattle.parse.specs.declared.Mode.the-variants.{Crate, Whole}
 use Rattle.parse.specs.declared.Flow.{Flow}
 use Rattle.parse.specs.declared.Flow.the-variants.{GoOn, Stop, Full, End}
 use Rattle.parse.specs.State.{tokenAt, placeAfter, begin, inMode, isGoing, going, atMost, loop, turns, putOf, notedOf, movedOf, stepOf, pushOf, noteOf, onJoiner, hop, goOn, passesEnd, resumedOf, retriedOf}
-use Rattle.parse.specs.Rule.{Test, Rule, skip, stop, push, note, mark, seq, choose, while, part, thrice, run, holds, takeOf, thriceOf}
+use Rattle.parse.specs.Rule.{Rule, skip, stop, push, note, mark, seq, choose, while, part, thrice, run, holds, takeOf, thriceOf}
 use Rattle.parse.proofs.Loop.{false-true, if-intro, by-test, at-most-keeps, loop-keeps}
 use Rattle.parse.proofs.Moves.{moved-case, put-same, noted-same}
-use Rattle.parse.proofs.Keeps.{Keeps, hop-keeps, step-keeps, push-keeps, note-keeps, take-keeps, thrice-keeps, run-keeps}
+use Rattle.parse.proofs.Keeps.{Keeps, hop-keeps, take-keeps, run-keeps}
 
 abbrev pub notFull : Flow → Bool
 notFull GoOn = true

@@ -1,15 +1,15 @@
 -- Conservation: no token is lost and none is made up. A call's characters and notes, read in order, are the tokens from where it began
 -- up to the place that it hands back, and one more where crate mode reads a token twice: repeat (a) at a cluster of 32, repeat (b) at
 -- the end of the text. Assumes nothing.
-use Prim.Native.Nat.{ℕ, zero, suc, _+_, _-_, _<_, _≤_, min}
+use Prim.Native.Nat.{ℕ, _+_, _-_, _<_, _≤_}
 use mathlib.Core.Path.{_≡_, refl, sym, _∙_, ap, subst}
 use mathlib.Core.Bool.{Bool, true, false, cond}
-use mathlib.Core.List.{List, [], _∷_}
-use mathlib.Core.Logic.{_⊎_, inl, inr, ⊎-elim}
+use mathlib.Core.List.{List}
+use mathlib.Core.Logic.{_⊎_, inl, inr}
 use native.Mathlib.Omega.{arith}
 use borrow.Author.Tests.{lt-ltb, ltb-true, ltb-false}
 use lib.Dec.{ltb}
-use lib.ListN.{length, take, set, getD, length-set}
+use lib.ListN.{length, set, getD, length-set}
 use lib.Seq.{length-take-le, getD-set-same}
 use Rattle.classes.specs.declared.Shape.{Shape}
 use Rattle.classes.specs.declared.Shape.the-variants.{Other}
@@ -20,9 +20,9 @@ use Rattle.parse.specs.declared.Mode.{Mode}
 use Rattle.parse.specs.declared.Mode.the-variants.{Crate, Whole}
 use Rattle.parse.specs.declared.Flow.{Flow}
 use Rattle.parse.specs.declared.Flow.the-variants.{GoOn, Stop, Full, End}
-use Rattle.parse.specs.State.{tokenAt, placeAfter, filledAt, placeOf, begin, nothing, isGoing, going, withPlace, withFlow, withDone, withAgain, charOf, putOf, notedMore, notedOf, movedOf, goOn, resumedOf, passesEnd, retriedOf}
+use Rattle.parse.specs.State.{tokenAt, filledAt, placeOf, begin, nothing, isGoing, going, withFlow, withAgain, charOf, putOf, notedMore, notedOf, movedOf, goOn, resumedOf, passesEnd, retriedOf}
 use Rattle.parse.specs.Rule.{Rule, run}
-use Rattle.parse.specs.Cover.{look, IsOf, Covers, pushed, notes, repeatsOf, repeats, struck, once}
+use Rattle.parse.specs.Cover.{look, IsOf, Covers, pushed, notes, repeatsOf, repeats, once}
 use Rattle.parse.proofs.Loop.{false-true, if-intro, by-test}
 use Rattle.parse.proofs.Moves.{moved-case}
 use Rattle.parse.proofs.Keeps.{Keeps, run-keeps, run-at, run-mode, place-in}

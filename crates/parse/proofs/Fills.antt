@@ -1,10 +1,10 @@
 -- A rule that pushes or notes first leaves a character, so its call passes a token: what the progress of a parser is made of.
 -- Assumes nothing.
-use Prim.Native.Nat.{ℕ, _+_, _<_, _≤_}
+use Prim.Native.Nat.{ℕ, _<_, _≤_}
 use mathlib.Core.Path.{_≡_, refl, sym, _∙_, ap}
 use mathlib.Core.Bool.{Bool, true, false, cond}
 use mathlib.Core.List.{List}
-use mathlib.Core.Logic.{_⊎_, inl, inr, ⊎-elim}
+use mathlib.Core.Logic.{_⊎_, inl, inr}
 use native.Mathlib.Omega.{arith}
 use lib.Dec.{ltb}
 use lib.ListN.{length}
@@ -18,7 +18,7 @@ use Rattle.parse.specs.State.{tokenAt, placeOf, begin, isGoing, going, p
 use Rattle.parse.specs.Rule.{Test, Rule, skip, stop, push, note, mark, seq, choose, while, part, thrice, run, holds, takeOf, thriceOf}
 use Rattle.parse.specs.declared.Emoji.the-variants.{Default}
 use Rattle.parse.specs.Rule.{isEmoji, setEmoji}
-use Rattle.parse.specs.Shared.{emojiTurn, emojiExtension, emojis, newline, otherArm}
+use Rattle.parse.specs.Shared.{emojiTurn, emojis, newline, otherArm}
 use Rattle.parse.proofs.Loop.{false-true, if-intro, by-test, both}
 use Rattle.parse.proofs.Moves.{moved-case}
 use Rattle.parse.proofs.Keeps.{Keeps, run-keeps, step-keeps, take-keeps}

@@ -1,14 +1,14 @@
 -- What every push, note, step and mark keeps, every rule keeps: one induction over the grammar, for every law of this kind.
 -- Assumes nothing.
-use Prim.Native.Nat.{ℕ, _+_, _<_, _≤_}
-use mathlib.Core.Path.{_≡_, refl, sym, _∙_}
-use mathlib.Core.Bool.{Bool, true, false, cond}
+use Prim.Native.Nat.{ℕ, _≤_}
+use mathlib.Core.Path.{_≡_, refl}
+use mathlib.Core.Bool.{true}
 use mathlib.Core.List.{List}
 use native.Mathlib.Omega.{arith}
 use native.Mathlib.Nat.{le-refl, le-trans}
 use lib.Dec.{ltb}
 use lib.ListN.{length}
-use borrow.Author.Tests.{ltb-true, ltb-false}
+use borrow.Author.Tests.{ltb-true}
 use Rattle.classes.specs.declared.Shape.{Shape}
 use Rattle.classes.specs.declared.Shape.the-variants.{Other}
 use Rattle.parse.specs.declared.Parse.{Parse}
@@ -17,11 +17,11 @@ use Rattle.parse.specs.declared.Info.{Info}
 use Rattle.parse.specs.declared.Mode.{Mode}
 use Rattle.parse.specs.declared.Mode.the-variants.{Crate, Whole}
 use Rattle.parse.specs.declared.Flow.{Flow}
-use Rattle.parse.specs.declared.Flow.the-variants.{GoOn, Stop, Full, End}
-use Rattle.parse.specs.State.{tokenAt, placeAfter, filledAt, placeOf, loop, going, withPlace, withFlow, withCells, withInfo, withDone, withAgain, putOf, notedOf, movedOf, stepOf, pushOf, noteOf, onJoiner, hop, goOn, passesEnd, resumedOf, retriedOf}
-use Rattle.parse.specs.Rule.{Test, Rule, skip, stop, push, note, mark, seq, choose, while, part, thrice, run, holds, takeOf, thriceOf}
-use Rattle.parse.proofs.Loop.{if-intro, by-test, loop-keeps}
-use Rattle.parse.proofs.Moves.{joiner-going, moved-case, place-le, filled-le, moved-at}
+use Rattle.parse.specs.declared.Flow.the-variants.{GoOn, Stop}
+use Rattle.parse.specs.State.{tokenAt, placeAfter, filledAt, placeOf, going, withFlow, withCells, withInfo, withAgain, putOf, notedOf, movedOf, stepOf, pushOf, noteOf, onJoiner, hop, goOn, passesEnd, resumedOf, retriedOf}
+use Rattle.parse.specs.Rule.{Rule, skip, stop, push, note, mark, seq, choose, while, part, thrice, run, holds, takeOf, thriceOf}
+use Rattle.parse.proofs.Loop.{if-intro, loop-keeps}
+use Rattle.parse.proofs.Moves.{joiner-going, moved-case, moved-at}
 
 -- I holds where the current token is still to be pushed or noted, J where it has been and is to be stepped off
 pub record Keeps (text : List ℕ) (I J : Parse → Type 0) : Type 0 where

@@ -1,7 +1,7 @@
 -- One push, one note and one step: each takes from the turns left, and the room left falls where a step and a push call each other
 -- over U+034F. Assumes nothing.
-use Prim.Native.Nat.{ℕ, zero, suc, _+_, _-_, _<_, _≤_, _*_, max}
-use mathlib.Core.Path.{_≡_, refl, sym, _∙_, ap}
+use Prim.Native.Nat.{ℕ, _+_, _-_, _<_, _≤_, _*_, max}
+use mathlib.Core.Path.{_≡_, refl, sym, _∙_}
 use mathlib.Core.Bool.{Bool, true, false, cond}
 use mathlib.Core.List.{List}
 use native.Mathlib.Omega.{arith}
@@ -16,7 +16,7 @@ use Rattle.parse.specs.declared.Pushed.{Pushed}
 use Rattle.parse.specs.declared.Mode.{Mode}
 use Rattle.parse.specs.declared.Mode.the-variants.{Crate, Whole}
 use Rattle.parse.specs.declared.Flow.the-variants.{Full, End}
-use Rattle.parse.specs.State.{tokenAt, placeAfter, filledAt, loop, turns, going, withPlace, withFlow, withDone, withCells, putOf, notedOf, movedOf, onJoiner, hop, stepOf, pushOf, noteOf}
+use Rattle.parse.specs.State.{tokenAt, placeAfter, filledAt, turns, going, withPlace, withFlow, withDone, withCells, putOf, notedOf, movedOf, onJoiner, hop, stepOf, pushOf, noteOf}
 use Rattle.parse.proofs.Loop.{false-true, if-intro, if-same, Falls, loop-goes, loop-stays, loop-keeps}
 
 -- what changes with no cell, a put and a note leave

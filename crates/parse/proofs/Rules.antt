@@ -1,6 +1,6 @@
 -- What the proofs of functions cite: each law takes what the code has shown, and gives the function's own claim, so that `search`
 -- over a ruleset follows the code. Assumes nothing.
-use Prim.Native.Nat.{ℕ, zero, suc, _<_}
+use Prim.Native.Nat.{ℕ, _<_}
 use mathlib.Core.Path.{_≡_, refl, sym, _∙_, ap}
 use mathlib.Core.Bool.{Bool, true, false, cond}
 use mathlib.Core.List.{List, [], _∷_}

@@ -1,17 +1,16 @@
 -- Laws of every rule, by induction over the grammar: a parse that does not go on is unchanged, a rule that begins with a push passes a
 -- token or ends the flow, and a `while` of such a rule unrolls. Assumes nothing.
-use Prim.Native.Nat.{ℕ, zero, suc, _+_, _-_, _<_, _≤_}
-use mathlib.Core.Path.{_≡_, refl, sym, _∙_, ap}
+use Prim.Native.Nat.{ℕ, suc, _-_, _<_, _≤_}
+use mathlib.Core.Path.{_≡_, refl, sym, _∙_}
 use mathlib.Core.Bool.{Bool, true, false, cond}
 use mathlib.Core.List.{List}
 use native.Mathlib.Omega.{arith}
-use native.Mathlib.Nat.{le-refl, le-trans, lt-of-le-of-lt, lt-of-lt-of-le}
+use native.Mathlib.Nat.{le-refl, lt-of-le-of-lt, lt-of-lt-of-le}
 use lib.ListN.{length}
-use Rattle.classes.specs.declared.Shape.{Shape}
 use Rattle.parse.specs.declared.Parse.{Parse}
-use Rattle.parse.specs.State.{tokenAt, loop, turns, going, passesEnd, retriedOf, pushOf, noteOf}
-use Rattle.parse.specs.Rule.{Test, Rule, skip, stop, push, note, mark, seq, choose, while, part, thrice, run, takeOf, thriceOf, holds}
-use Rattle.parse.proofs.Loop.{false-true, if-intro, if-same, by-test, Falls, loop-goes, loop-stays, loop-keeps}
+use Rattle.parse.specs.State.{tokenAt, turns, going}
+use Rattle.parse.specs.Rule.{Test, Rule, skip, stop, push, note, mark, seq, choose, while, part, thrice, run, holds}
+use Rattle.parse.proofs.Loop.{false-true, if-intro, by-test, Falls, loop-goes, loop-stays}
 use Rattle.parse.proofs.Moves.{push-turns, note-turns}
 use Rattle.parse.proofs.Keeps.{run-at}
 

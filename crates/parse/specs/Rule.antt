@@ -5,7 +5,7 @@ use mathlib.Core.List.{List, [], _∷_}
 use lib.Dec.{eqb}
 use Rattle.classes.specs.declared.Shape.{Shape}
 use Rattle.classes.specs.declared.Shape.the-variants.{Other}
-use Rattle.token.specs.Token.{scalarOf, kindOf, breakOf, categoryOf, emojiOf, selectorOf}
+use Rattle.token.specs.Token.{scalarOf, kindOf, breakOf, emojiOf, selectorOf}
 use Rattle.parse.specs.declared.Parse.{Parse}
 use Rattle.parse.specs.declared.Info.{Info}
 use Rattle.parse.specs.declared.Emoji.{Emoji}
@@ -73,9 +73,6 @@ is k text i = eqb (kindOf (tokenAt text i)) k
 
 abbrev pub isBreak : ℕ → Test
 isBreak k text i = eqb (breakOf (tokenAt text i)) k
-
-abbrev pub isCategory : ℕ → Test
-isCategory k text i = eqb (categoryOf (tokenAt text i)) k
 
 abbrev pub isScalar : ℕ → Test
 isScalar x text i = eqb (scalarOf (tokenAt text i)) x

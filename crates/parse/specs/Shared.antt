@@ -11,7 +11,7 @@ use Rattle.classes.specs.Scalar.{CR, LF, ZWNJ, ZWJ, VS15, VS16}
 use Rattle.token.specs.Token.{scalarOf, categoryOf}
 use Rattle.parse.specs.declared.Emoji.the-variants.{Default, Text, Color}
 use Rattle.parse.specs.declared.Space.the-variants.{Newline}
-use Rattle.parse.specs.Rule.{Rule, skip, stop, push, note, mark, choose, while, part, seq, _▸_, take, isBreak, isScalar, isEmoji, setEmoji, setSpace, setSpaceFromChar}
+use Rattle.parse.specs.Rule.{Rule, skip, stop, push, note, mark, choose, while, part, _▸_, take, isBreak, isScalar, isEmoji, setEmoji, setSpace, setSpaceFromChar}
 
 -- `parse_emoji_extension`, its arm EX: "U+FE0E and U+FE0F inside an emoji extension are noted and not pushed"
 unfoldable pub emojiMark : Rule

@@ -2,7 +2,7 @@
 -- `filledAt`, what a step does at a cluster of 32, and `passesEnd`, what becomes of the end of the text within a kinzi.
 use Prim.Native.Nat.{ℕ, zero, suc, _+_, _-_}
 use mathlib.Core.Bool.{Bool, true, false, cond}
-use mathlib.Core.List.{List, [], _∷_}
+use mathlib.Core.List.{List}
 use lib.Dec.{eqb, ltb}
 use lib.ListN.{length, set, getD, replicate}
 use Rattle.classes.specs.declared.Shape.{Shape}

@@ -7,7 +7,7 @@ use crate::Space;
 use crate::state::token_at;
 use classes::Shape;
 ghost use mathlib.Core.Path.{_≡_};
-ghost use Rattle.parse.specs.Rule.{run, take, note, stop, mark, thrice, acceptAs, manyAs, many, setBroken, setEmoji, setSpace, setSpaceFromChar, forceNormalize};
+ghost use Rattle.parse.specs.Rule.{run, take, note, mark, acceptAs, manyAs, many, setBroken, setEmoji, setSpace, setSpaceFromChar, forceNormalize};
 
 impl Parse {
     pub fn accept_any_as(self, text: &[u64], class: Shape) -> Parse

@@ -12,8 +12,7 @@ ghost use mathlib.Core.Path.{_≡_};
 ghost use mathlib.Core.Bool.{cond};
 ghost use lib.Dec.{ltb};
 ghost use Prim.Native.Nat.{_+_};
-ghost use Rattle.parse.specs.State.{tokenAt, placeAfter, begin, clusterOf, placeOf, isGoing, withFlow, withInfo, withDone, withAgain, filledAt, putOf, notedOf, movedOf, onJoiner, stepOf, pushOf, resumedOf, retriedOf, goOn, passesEnd};
-ghost use Rattle.parse.specs.declared.Flow.the-variants as flows;
+ghost use Rattle.parse.specs.State.{tokenAt, placeAfter, clusterOf, placeOf, isGoing, withFlow, withInfo, filledAt, putOf, notedOf, movedOf, onJoiner, stepOf, pushOf, resumedOf, retriedOf, goOn, passesEnd};
 
 pub fn token_at(text: &[u64], i: usize) -> u64
     ensures { λ r. ⌜ r ≡ tokenAt (now (text .entry)) i ⌝ }
@@ -223,7 +222,7 @@ impl Parse {
     }
 
     // Onto the next token: "a step onto [U+034F] pushes it as Other and steps again".
-    pub fn step(self, text: &[u64]) -> Parse
+    pub(crate) fn step(self, text: &[u64]) -> Parse
         ensures { λ r. ⌜ r ≡ stepOf (now (text .entry)) self ⌝ }
     {
         let next = self.moved(text.len());
@@ -234,7 +233,7 @@ impl Parse {
     }
 
     // "Push, then step."
-    pub fn push(self, text: &[u64], class: Shape) -> Parse
+    pub(crate) fn push(self, text: &[u64], class: Shape) -> Parse
         ensures { λ r. ⌜ r ≡ pushOf (now (text .entry)) class self ⌝ }
     {
         let at = self.at;

@@ -3,7 +3,7 @@ use crate::Parse;
 use crate::state::token_at;
 ghost use mathlib.Core.Path.{_≡_};
 ghost use mathlib.Core.List.{[], _∷_};
-ghost use Rattle.parse.specs.Rule.{holds, is, isBreak, isCategory, isScalar, isEmoji, isSelector, oneOf, kindHere};
+ghost use Rattle.parse.specs.Rule.{holds, is, isBreak, isScalar, isEmoji, isSelector, oneOf, kindHere};
 
 impl Parse {
     // The current token's kind, or 64, which is none.
@@ -36,17 +36,6 @@ impl Parse {
         let here = token::break_class(token_at(text, at));
         if self.going() {
             return here == class;
-        }
-        false
-    }
-
-    pub fn category_is(self, text: &[u64], category: u8) -> bool
-        ensures { λ r. ⌜ r ≡ holds (now (text .entry)) (isCategory category) self ⌝ }
-    {
-        let at = self.at;
-        let here = token::category(token_at(text, at));
-        if self.going() {
-            return here == category;
         }
         false
     }
