@@ -317,3 +317,20 @@ module _ (text : List ℕ) (short : length text ≤ 65535) (r : Rule) (p : Place
       (λ k. let e : repeats result ≡ 1 = omega (arith, ltb-true 0 (repeats result) k, repeats-once) in by-test (result .again)
       (λ a. omega (arith, repeat-b e a .0, inside)) (λ a. omega (arith, repeat-a e a .0, counted, e)))
       (λ k. omega (arith, ltb-false 0 (repeats result) k, counted))
+
+-- Where crate mode reads a token twice, whole mode hands back another cluster or another place.
+pub modes-differ : (text : List ℕ) → length text ≤ 65535 → (r : Rule) (p : Place) (j : Bool) → p .at < length text → repeats (run r text (begin p Crate j)) ≡ 1 → pushed (run r text (begin p Crate j)) ≡ pushed (run r text (begin p Whole j)) → placeOf text (run r text (begin p Crate j)) ≡ placeOf text (run r text (begin p Whole j)) → ⊥
+modes-differ text short r p j inside e same place =
+    let c = run r text (begin p Crate j) in
+    let w = run r text (begin p Whole j) in
+    let z : repeats w ≡ 0 = ap (λ k. repeatsOf k (w .flow) (w .again)) (run-mode r text (begin p Whole j)) in
+    let n : length (pushed c) + notes (pushed c) ≡ length (pushed w) + notes (pushed w) = ap (λ cs. length cs + notes cs) same in
+    omega (
+      arith,
+      e,
+      place,
+      z,
+      n,
+      cover-count (look text) (pushed c) (p .at) (placeOf text c + repeats c) (conserve text short r p Crate j inside),
+      cover-count (look text) (pushed w) (p .at) (placeOf text w + repeats w) (conserve text short r p Whole j inside),
+    )

@@ -70,6 +70,9 @@ module _ (text : List ℕ) (s r : Parse) where
 
 pub ruleset rules = (by-skip, by-push, by-note, by-part, by-thrice, by-stop, by-mark, by-still, by-then, by-else, by-seq)
 
+-- for more arms than `rules` reaches
+pub ruleset arms = (by-then, by-else, by-seq)
+
 either-true : (g a b : Bool) → cond g a false ≡ true → true ≡ cond g (cond a true b) false
 either-true true true b k = refl
 either-true true false b k = absurd (false-true k)

@@ -129,7 +129,7 @@ atMost test body (suc n) s = let r = atMost test body n (body s) in cond (test s
 unfoldable pub loop : List ℕ → (Parse → Bool) → (Parse → Parse) → Parse → Parse
 loop text test body s = atMost test body (turns text s) s
 
--- a U+034F "pushed as Other" and stepped off
+-- a U+034F, pushed as Other and stepped off
 abbrev pub hop : List ℕ → Parse → Parse
 hop text s = movedOf (length text) (putOf (tokenAt text (s .at)) Other s)
 
@@ -137,7 +137,7 @@ hop text s = movedOf (length text) (putOf (tokenAt text (s .at)) Other s)
 unfoldable pub stepOf : List ℕ → Parse → Parse
 stepOf text s = loop text (onJoiner text) (hop text) (movedOf (length text) s)
 
--- "push, then step"
+-- "Push, then step."
 unfoldable pub pushOf : List ℕ → Shape → Parse → Parse
 pushOf text c s = stepOf text (putOf (tokenAt text (s .at)) c s)
 
