@@ -1,0 +1,4 @@
+pub mod State
+pub mod Rule
+pub mod Shared
+pub mod Cover

@@ -1,0 +1,108 @@
+// The cluster under construction: what a call of a parser changes as it goes, and what it hands back. The three grammars are
+// built of its methods, which carry the names that they have in the Rust.
+pub mod actions;
+pub mod emoji_loop;
+pub mod other;
+pub mod state;
+pub mod tests;
+
+use classes::Mode;
+use classes::Shape;
+ghost use mathlib.Core.Path.{_≡_};
+ghost use Rattle.parse.specs.State.{emptyCluster, startPlace};
+
+// The answer of each part of a parser, for the Rust's `Option<()>`: it goes on, or stopped of its own, or the cluster has 32, or
+// the text ended.
+pub enum Flow {
+    GoOn,
+    Stop,
+    Full,
+    End,
+}
+
+pub enum Emoji {
+    None,
+    Default,
+    Text,
+    Color,
+}
+
+pub enum Space {
+    None,
+    Newline,
+    From(u32),
+}
+
+pub struct Info {
+    pub emoji: Emoji,
+    pub space: Space,
+    pub broken: bool,
+    pub normalise: bool,
+}
+
+// A character of the cluster: its scalar, the index of its record, how many tokens are noted directly after it, its shape class.
+pub struct Pushed {
+    pub scalar: u32,
+    pub index: u16,
+    pub noted: u16,
+    pub class: Shape,
+}
+
+pub struct Cluster {
+    pub len: usize,
+    pub chars: [Pushed; 32],
+    pub info: Info,
+}
+
+impl Cluster {
+    pub const EMPTY: Cluster = Cluster {
+        len: 0,
+        chars: [Pushed {
+            scalar: 0,
+            index: 0,
+            noted: 0,
+            class: Shape::Base,
+        }; 32],
+        info: Info {
+            emoji: Emoji::None,
+            space: Space::None,
+            broken: false,
+            normalise: false,
+        },
+    };
+
+    pub fn empty() -> Cluster
+        ensures { λ r. ⌜ r ≡ emptyCluster ⌝ }
+    {
+        Cluster::EMPTY
+    }
+}
+
+// A token's number in the stream, or the number of tokens, which is the end.
+pub struct Place {
+    pub at: usize,
+}
+
+impl Place {
+    pub const START: Place = Place { at: 0 };
+
+    pub fn start() -> Place
+        ensures { λ r. ⌜ r ≡ startPlace ⌝ }
+    {
+        Place::START
+    }
+}
+
+// A call under way. `done` is the Rust's: the text has ended, and `at` stays on its last token. `again` says that this token is
+// read a second time, repeat (b). `joins` says whether U+034F is stepped over. One flat struct, since it is changed in place.
+pub struct Parse {
+    pub at: usize,
+    pub done: bool,
+    pub again: bool,
+    pub flow: Flow,
+    pub mode: Mode,
+    pub joins: bool,
+    pub len: usize,
+    pub chars: [Pushed; 32],
+    pub info: Info,
+}
