@@ -1,9 +1,10 @@
 -- The word step: one record, with its refusals.
 use Prim.Native.Nat.{ℕ}
 use mathlib.Core.Bool.{Bool, true, false, _||_}
+use mathlib.Core.List.{List, [], _∷_}
 use lib.Dec.{leb, ltb}
 use Rattle.classes.specs.WordBreak as WordBreak
-use Rattle.records.specs.Refusals.{refuse, _⊳_, judgeWord}
+use Rattle.records.specs.Refusals.{refuse, _⊳_, Coded, coded, mark, outside}
 use Rattle.records.specs.declared.Side.the-variants.{Record, Neither}
 use Rattle.records.specs.declared.Verdict.{Verdict}
 use Rattle.records.specs.declared.Verdict.the-variants.{Accepted, Refused}
@@ -17,19 +18,23 @@ use Rattle.words.specs.Rules.{ruled}
 abbrev pub startState : WordState
 startState = record { first = true; previous = WordBreak.Other; prevent = false; count = 0 }
 
--- a next class outside the list
-abbrev pub badNext : Next → Bool
-badNext (Class c) = leb WordBreak.len c
-badNext End = false
+-- the next record's class, if there is one, has to be in the list too
+abbrev pub nextCodes : Next → List Coded
+nextCodes (Class c) = coded c WordBreak.len ∷ []
+nextCodes End = []
+
+-- a class or a mark outside its list
+abbrev pub badRecord : ℕ → ℕ → Next → Bool
+badRecord class pictograph next = outside (coded class WordBreak.len ∷ mark pictograph ∷ nextCodes next)
 
 -- "a state with a code outside the list or a count above 2"
 abbrev pub badState : WordState → Bool
 badState s = leb WordBreak.len (s .previous) || ltb 2 (s .count)
 
--- "it refuses 4 (record, index 0) for a bad class or mark, then 8"; a bad next class is refused 4 too
+-- "it refuses 4 (record, index 0) for a bad class or mark, then 8"
 unfoldable pub stepVerdict : WordState → ℕ → ℕ → Next → Verdict
 stepVerdict s class pictograph next =
-    judgeWord class pictograph 0 ⊳ refuse (badNext next) 4 Record 0 ⊳ refuse (badState s) 8 Neither 0
+    refuse (badRecord class pictograph next) 4 Record 0 ⊳ refuse (badState s) 8 Neither 0
 
 -- "a refusal hands back the same state and the answer 0"
 abbrev pub stepUnder : Verdict → WordState → ℕ → ℕ → Next → WordStep

@@ -1,5 +1,6 @@
 // The word machine: `check_word` of src/text/analyze.rs as one step with its refusals, and as a run over lent columns.
 pub mod exits;
+mod judge;
 pub mod rules;
 pub mod sets;
 
@@ -9,11 +10,10 @@ use records::Verdict;
 use records::cells::cell8;
 use records::check_words;
 ghost use mathlib.Core.Path.{_≡_};
-ghost use mathlib.Core.Bool.{_||_};
 ghost use mathlib.Core.List.{_++_};
-ghost use lib.Dec.{leb, ltb};
+ghost use Prim.Native.Nat.{_≤_};
 ghost use lib.ListN.{length, drop};
-ghost use Rattle.words.specs.Step.{startState, badNext, badState, stepVerdict, stepOf};
+ghost use Rattle.words.specs.Step.{startState, stepOf};
 ghost use Rattle.words.specs.Run.{nextAt, answers, runVerdict, runCells};
 
 // What the machine keeps between two records: whether none came yet, the class before, whether the next boundary is held shut, and
@@ -65,4 +65,71 @@ impl WordState {
         prevent: false,
         count: 0,
     };
+
+    // `START` is the start state of the definitions.
+    pub fn start() -> WordState
+        ensures { λ r. ⌜ r ≡ startState ⌝ }
+    {
+        WordState::START
+    }
+
+    // One record: the state after it and its answer, or a refusal with the same state and the answer 0.
+    pub fn step(self, class: u8, pictograph: u8, next: Next) -> WordStep
+        ensures { λ r. ⌜ r ≡ stepOf self class pictograph next ⌝ }
+    {
+        let verdict = self.judge(class, pictograph, next);
+        let Verdict::Accepted = verdict else {
+            return WordStep {
+                state: self,
+                answer: 0,
+                verdict,
+            };
+        };
+        self.rule(class, pictograph, next)
+    }
+}
+
+// The look-ahead: the record at an index, which may be past the last.
+fn next_at(words: &[u8], i: usize) -> Next
+    ensures { λ r. ⌜ r ≡ nextAt (now (words .entry)) i ⌝ }
+{
+    if i < words.len() {
+        return Next::Class(words[i]);
+    }
+    Next::End
+}
+
+// The answers to all records, into as many cells.
+fn write_answers(words: &[u8], pictographs: &[u8], out: &mut [u8])
+    requires { ⌜ length (now words) ≤ length (now out) ⌝ }
+    ensures { λ _. ⌜ now (out .exit) ≡ answers (now (words .entry)) (now (pictographs .entry)) (length (now (words .entry))) ++ drop (length (now (words .entry))) (now (out .entry)) ⌝ }
+{
+    let mut state = WordState::start();
+    let mut i: usize = 0;
+    while i < words.len() {
+        let next = next_at(words, i + 1);
+        let step = state.rule(cell8(words, i), cell8(pictographs, i), next);
+        state = step.state;
+        out[i] = step.answer;
+        i += 1;
+    }
+}
+
+// The answers to a whole text, one cell a record.
+pub fn run(words: &[u8], pictographs: &[u8], out: &mut [u8]) -> Verdict
+    ensures { λ r. ⌜ (r ≡ runVerdict (now (words .entry)) (now (pictographs .entry)) (length (now (out .entry)))) × (now (out .exit) ≡ runCells (now (words .entry)) (now (pictographs .entry)) (now (out .entry))) ⌝ }
+{
+    let checked = check_words(words, pictographs);
+    let Verdict::Accepted = checked else {
+        return checked;
+    };
+    if out.len() < words.len() {
+        return Verdict::Refused {
+            number: 9,
+            side: Side::Neither,
+            index: 0,
+        };
+    }
+    write_answers(words, pictographs, out);
+    Verdict::Accepted
 }
