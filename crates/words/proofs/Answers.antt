@@ -3,10 +3,12 @@
 use Prim.Native.Nat.{ℕ, zero, suc, _+_, _<_, _≤_}
 use mathlib.Core.Path.{_≡_, refl, sym, _∙_, ap}
 use mathlib.Core.List.{List, [], _∷_, _++_, append-assoc}
+use mathlib.Core.Logic.{⊎-elim}
+use native.Mathlib.Nat.{eq-or-lt-of-le}
 use native.Mathlib.Omega.{arith}
 use native.Mathlib.Numerals.{add-one}
-use lib.ListN.{length, drop, set, length-append}
-use lib.Seq.{drop-cons, set-at}
+use lib.ListN.{length, drop, set, length-append, List·getD-append}
+use lib.Seq.{drop-cons, set-at, getD-at}
 use Rattle.records.specs.Text.{cell}
 use Rattle.words.specs.declared.WordState.{WordState}
 use Rattle.words.specs.declared.WordStep.{WordStep}
@@ -24,6 +26,16 @@ pub answers-length : (words pictographs : List ℕ) (n : ℕ) → length (answer
 unfolding answers
 answers-length words pictographs zero = refl
 answers-length words pictographs (suc n) = simp (length-append, answers-length words pictographs n) (omega arith)
+
+pub answers-cell : (words pictographs : List ℕ) (n i : ℕ) → i < n → cell (answers words pictographs n) i ≡ answerAt words pictographs i
+unfolding answers
+answers-cell words pictographs zero i h = absurd (omega arith)
+answers-cell words pictographs (suc n) i h =
+    let at-most : i ≤ n = omega arith in
+    ⊎-elim
+    (λ e. rw e (getD-at (answers words pictographs n) _ [] 0 n (answers-length words pictographs n)))
+    (λ l. List·getD-append (answers words pictographs n) _ 0 i (rw (answers-length words pictographs n) l) ∙ answers-cell words pictographs n i l)
+    (eq-or-lt-of-le at-most)
 
 -- the cells after the first i records
 abbrev pub Cells : List ℕ → List ℕ → List ℕ → ℕ → List ℕ → Type 0
