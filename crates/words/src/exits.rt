@@ -118,7 +118,7 @@ pub fn told(previous: u8, prevent: bool, count: u8, answer: u8) -> WordStep
 }
 
 impl WordState {
-    pub fn exit(self, class: u8, pictograph: u8, next: Next) -> Exit
+    pub(crate) fn exit(self, class: u8, pictograph: u8, next: Next) -> Exit
         ensures { λ r. ⌜ r ≡ exitOf self class pictograph next ⌝ }
     {
         if self.first {
@@ -131,7 +131,7 @@ impl WordState {
     }
 
     // Of a first record "only RI sets the count".
-    pub fn begun(self, class: u8) -> WordStep
+    pub(crate) fn begun(self, class: u8) -> WordStep
         ensures { λ r. ⌜ r ≡ leaves self class Exit.Begun ⌝ }
     {
         if class == word_break::RI {
@@ -140,7 +140,7 @@ impl WordState {
         told(class, self.prevent, self.count, 1)
     }
 
-    pub fn leave(self, class: u8, exit: Exit) -> WordStep
+    pub(crate) fn leave(self, class: u8, exit: Exit) -> WordStep
         ensures { λ r. ⌜ r ≡ leaves self class exit ⌝ }
     {
         match exit {
@@ -156,7 +156,7 @@ impl WordState {
     }
 
     // One call of `check_word`, on a record and a state that are not judged here.
-    pub fn rule(self, class: u8, pictograph: u8, next: Next) -> WordStep
+    pub(crate) fn rule(self, class: u8, pictograph: u8, next: Next) -> WordStep
         ensures { λ r. ⌜ r ≡ ruled self class pictograph next ⌝ }
     {
         self.leave(class, self.exit(class, pictograph, next))

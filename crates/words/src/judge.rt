@@ -31,7 +31,7 @@ pub fn is_bad_record(class: u8, pictograph: u8, next: Next) -> bool
 }
 
 impl Next {
-    pub fn is_outside(self) -> bool
+    pub(crate) fn is_outside(self) -> bool
         ensures { λ r. ⌜ r ≡ outside (nextCodes self) ⌝ }
     {
         match self {
@@ -42,7 +42,7 @@ impl Next {
 }
 
 impl WordState {
-    pub fn is_bad(self) -> bool
+    pub(crate) fn is_bad(self) -> bool
         ensures { λ r. ⌜ r ≡ badState self ⌝ }
     {
         if is_outside(self.previous, word_break::LEN) {
@@ -51,7 +51,7 @@ impl WordState {
         2 < self.count
     }
 
-    pub fn judge(self, class: u8, pictograph: u8, next: Next) -> Verdict
+    pub(crate) fn judge(self, class: u8, pictograph: u8, next: Next) -> Verdict
         ensures { λ r. ⌜ r ≡ stepVerdict self class pictograph next ⌝ }
     {
         if is_bad_record(class, pictograph, next) {

@@ -1,8 +1,8 @@
 // The word machine: `check_word` of src/text/analyze.rs as one step with its refusals, and as a run over lent columns.
-pub mod exits;
+mod exits;
 mod judge;
-pub mod rules;
-pub mod sets;
+mod rules;
+mod sets;
 
 use classes::word_break;
 use records::Side;

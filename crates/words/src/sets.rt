@@ -86,7 +86,7 @@ pub fn is_between_numbers(class: u8) -> bool
 }
 
 impl Next {
-    pub fn is_letter(self) -> bool
+    pub(crate) fn is_letter(self) -> bool
         ensures { λ r. ⌜ r ≡ nextIn AHLetter self ⌝ }
     {
         match self {
@@ -96,7 +96,7 @@ impl Next {
     }
 
     // Whether the next record is of just this class.
-    pub fn is(self, one: u8) -> bool
+    pub(crate) fn is(self, one: u8) -> bool
         ensures { λ r. ⌜ r ≡ nextIn (one ∷ []) self ⌝ }
     {
         match self {
