@@ -12,7 +12,7 @@ use Rattle.words.specs.declared.WordState.{WordState}
 use Rattle.words.specs.declared.Next.{Next}
 use Rattle.words.specs.declared.Exit.{Exit}
 use Rattle.words.specs.declared.Exit.the-variants.{Begun, Released, Joined, Parted, Ignored, Held, Opened, Paired}
-use Rattle.words.specs.Rules.{_⇒_▹_, flagExit, numberExit, letterExit, pairExit, exitOf, leaves}
+use Rattle.words.specs.Rules.{_⇒_▹_, flagRules, numberRules, letterRules, pairRules, exitOf, leaves}
 
 pub leaves-bit : (s : WordState) (b : ℕ) (exit : Exit) → leaves s b exit .answer ≤ 1
 unfolding leaves
@@ -68,12 +68,12 @@ full-small a b count false e =
     let h : Small (Paired (count + 1)) = paired {count = count + 1} (omega (arith, leb-false 2 count e)) in
     search (small, opened, parted)
 
-flag-small : (a b count : ℕ) → Small (flagExit a b count)
-unfolding flagExit
+flag-small : (a b count : ℕ) → Small (flagRules a b count)
+unfolding flagRules
 flag-small a b count = full-small a b count (leb 2 count) refl
 
 pub exit-small : (s : WordState) (b pictograph : ℕ) (next : Next) → Small (exitOf s b pictograph next)
-unfolding exitOf pairExit letterExit numberExit
+unfolding exitOf pairRules letterRules numberRules
 exit-small s b pictograph next = search (small, flag-small, begun, released, joined, parted, ignored, held) depth 40
 
 begun-small : (test : Bool) (count : ℕ) → count ≤ 2 → cond test 1 count ≤ 2

@@ -95,31 +95,36 @@ unfolding classOr
 class-under words k true e = refl
 class-under words k false e = List·getD-eq-default words 0 (ltb-false _ _ e)
 
-agree-cell : (words words′ : List ℕ) (k : ℕ) → nextAt words k ≡ nextAt words′ k → cell words k ≡ cell words′ k
+agree-cell : (words words′ : List ℕ) (i j : ℕ) → nextAt words i ≡ nextAt words′ j → cell words i ≡ cell words′ j
 unfolding nextAt
-agree-cell words words′ k e =
-    class-under words k (ltb k (length words)) refl ∙ ap classOr e ∙ sym (class-under words′ k (ltb k (length words′)) refl)
+agree-cell words words′ i j e =
+    class-under words i (ltb i (length words)) refl ∙ ap classOr e ∙ sym (class-under words′ j (ltb j (length words′)) refl)
 
 module _ (words words′ pictographs pictographs′ : List ℕ) where
-  steps-agree : (i : ℕ) → Agree words words′ (i + 1) → Alike pictographs pictographs′ i → stateAt words pictographs i ≡ stateAt words′ pictographs′ i
-      → stepFrom words pictographs (stateAt words pictographs i) i ≡ stepFrom words′ pictographs′ (stateAt words′ pictographs′ i) i
-  steps-agree i w p e =
-      rw (e, agree-cell words words′ i (w i (omega arith)), p i (omega arith), w (i + 1) (omega arith))
+  steps-agree : (i j : ℕ) → stateAt words pictographs i ≡ stateAt words′ pictographs′ j → nextAt words i ≡ nextAt words′ j
+      → cell pictographs i ≡ cell pictographs′ j → nextAt words (i + 1) ≡ nextAt words′ (j + 1)
+      → stepFrom words pictographs (stateAt words pictographs i) i ≡ stepFrom words′ pictographs′ (stateAt words′ pictographs′ j) j
+  steps-agree i j s w p n = rw (s, agree-cell words words′ i j w, p, n)
 
-  states-agree : (i : ℕ) → Agree words words′ i → Alike pictographs pictographs′ i → stateAt words pictographs i ≡ stateAt words′ pictographs′ i
-  unfolding stateAt
-  states-agree zero w p = refl
-  states-agree (suc i) w p =
-      ap (λ (r : WordStep). r .state)
-      (steps-agree i (λ k h. w k (omega arith)) (λ k h. p k (omega arith))
-      (states-agree i (λ k h. w k (omega arith)) (λ k h. p k (omega arith))))
-
-  -- "The answer at a record depends on the state and at most the next record": two texts that agree up to the next record have the
-  -- same answer there, whatever follows.
-  pub answers-agree : (i : ℕ) → Agree words words′ (i + 1) → Alike pictographs pictographs′ i → answerAt words pictographs i ≡ answerAt words′ pictographs′ i
+  -- "The answer at a record depends on the state and at most the next record": where these are the same, in any two texts and at any
+  -- two places, so is the answer.
+  pub answers-agree : (i j : ℕ) → stateAt words pictographs i ≡ stateAt words′ pictographs′ j → nextAt words i ≡ nextAt words′ j
+      → cell pictographs i ≡ cell pictographs′ j → nextAt words (i + 1) ≡ nextAt words′ (j + 1)
+      → answerAt words pictographs i ≡ answerAt words′ pictographs′ j
   unfolding answerAt
-  answers-agree i w p =
-      ap (λ (r : WordStep). r .answer) (steps-agree i w p (states-agree i (λ k h. w k (omega arith)) p))
+  answers-agree i j s w p n = ap (λ (r : WordStep). r .answer) (steps-agree i j s w p n)
+
+  states-alike : (i : ℕ) → Agree words words′ i → Alike pictographs pictographs′ i → stateAt words pictographs i ≡ stateAt words′ pictographs′ i
+  unfolding stateAt
+  states-alike zero w p = refl
+  states-alike (suc i) w p =
+      ap (λ (r : WordStep). r .state)
+      (steps-agree i i (states-alike i (λ k h. w k (omega arith)) (λ k h. p k (omega arith))) (w i (omega arith)) (p i (omega arith)) (w (i + 1) (omega arith)))
+
+  -- So two texts that agree up to the next record have the same answer, whatever follows.
+  pub answers-alike : (i : ℕ) → Agree words words′ (i + 1) → Alike pictographs pictographs′ i → answerAt words pictographs i ≡ answerAt words′ pictographs′ i
+  answers-alike i w p =
+      answers-agree i i (states-alike i (λ k h. w k (omega arith)) p) (w i (omega arith)) (p i (omega arith)) (w (i + 1) (omega arith))
 
 -- The cells after a run: with a refusal as they were, else a record's cell has its answer, and a cell past the records is as it was.
 module _ (words pictographs out : List ℕ) where

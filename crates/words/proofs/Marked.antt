@@ -5,7 +5,7 @@ use mathlib.Core.Path.{_≡_, refl}
 use mathlib.Core.List.{List, [], _∷_, map}
 use Rattle.classes.specs.WordBreak.{Other, LF, ZWJ, ALetter, MidNumLet, RI}
 use Rattle.records.specs.Refusals.{wordVerdict, judgeLengths, judgeWord, over}
-use Rattle.words.specs.Rules.{flagExit, numberExit, letterExit, pairExit, exitOf, leaves}
+use Rattle.words.specs.Rules.{flagRules, numberRules, letterRules, pairRules, exitOf, leaves}
 use Rattle.words.specs.Run.{nextAt, stateAt, answerAt, answers, runVerdict, runCells}
 
 pub record Case : Type 0 where
@@ -30,5 +30,5 @@ abbrev pub ran : Case → List ℕ
 ran c = runCells (c .words) (c .pictographs) (map (λ _. 7) (c .words))
 
 pub marked : map ran cases ≡ map (λ (c : Case). c .told) cases
-unfolding runVerdict wordVerdict judgeLengths judgeWord over answers answerAt stateAt nextAt exitOf pairExit letterExit numberExit flagExit leaves
+unfolding runVerdict wordVerdict judgeLengths judgeWord over answers answerAt stateAt nextAt exitOf pairRules letterRules numberRules flagRules leaves
 marked = refl

@@ -17,16 +17,19 @@ use Rattle.words.specs.declared.Next.the-variants.{Class, End}
 use Rattle.words.specs.declared.Exit.{Exit}
 use Rattle.words.specs.declared.Exit.the-variants.{Begun, Released, Joined, Parted, Ignored, Held, Opened, Paired}
 
--- "the two word sets are UAX #29's AHLetter (ALetter, Hebrew_Letter) and MidNumLetQ (MidNumLet, Single_Quote)"
+-- "the two word sets are UAX #29's AHLetter (ALetter, Hebrew_Letter) and MidNumLetQ (MidNumLet, Single_Quote)"; the Rust writes LE for
+-- ALetter and MB for MidNumLet
 abbrev pub AHLetter : List ℕ
 AHLetter = ALetter ∷ HL ∷ []
 
 abbrev pub MidNumLetQ : List ℕ
 MidNumLetQ = MidNumLet ∷ SQ ∷ []
 
+-- `WB3_A`
 abbrev pub newlines : List ℕ
 newlines = NL ∷ CR ∷ LF ∷ []
 
+-- `WB_4`: "Ignore format and extend characters"
 abbrev pub ignorable : List ℕ
 ignorable = Extend ∷ FO ∷ ZWJ ∷ []
 
@@ -92,48 +95,69 @@ infixr 20 _⇒_▹_
 abbrev pub _⇒_▹_ : Bool → Exit → Exit → Exit
 test ⇒ exit ▹ later = cond test exit later
 
--- WB15, WB16: RI are joined by pairs. The Rust asks whether the count is 2, which is the same of a count of 0 to 2
-unfoldable pub flagExit : ℕ → ℕ → ℕ → Exit
-flagExit a b count =
+-- from `a == CR && b == LF` on
+unfoldable pub pairRules : ℕ → ℕ → ℕ → Exit → Exit
+pairRules a b pictograph later =
+    -- WB3
+    crlf a b ⇒ Joined
+    -- WB3a, WB3b
+    ▹ byNewline a b ⇒ Parted
+    -- WB3c
+    ▹ zwjPictograph a pictograph ⇒ Joined
+    -- WB4
+    ▹ member ignorable b ⇒ Ignored
+    -- WB3d
+    ▹ spaceRun a b ⇒ Joined
+    ▹ later
+
+-- from `a_mask & AH_LETTER != 0` on
+unfoldable pub letterRules : ℕ → ℕ → Next → Exit → Exit
+letterRules a b next later =
+    -- WB5, WB9
+    letterRun a b ⇒ Joined
+    -- WB6, WB7
+    ▹ midLetter a b next ⇒ Held
+    -- WB7a
+    ▹ hebrewSingle a b ⇒ Joined
+    -- WB7b, WB7c
+    ▹ hebrewDouble a b next ⇒ Held
+    ▹ later
+
+-- from `a_mask & NU.mask() != 0` on
+unfoldable pub numberRules : ℕ → ℕ → Next → Exit → Exit
+numberRules a b next later =
+    -- WB8, WB10
+    numberRun a b ⇒ Joined
+    -- WB11, WB12
+    ▹ midNumber a b next ⇒ Held
+    -- WB13
+    ▹ katakanaRun a b ⇒ Joined
+    -- WB13a
+    ▹ toExtender a b ⇒ Joined
+    -- WB13b
+    ▹ fromExtender a b ⇒ Joined
+    ▹ later
+
+-- from `self.ri_count == 2` on: of a count of 0 to 2, and the step refuses every other, 2 or more is 2
+unfoldable pub flagRules : ℕ → ℕ → ℕ → Exit
+flagRules a b count =
+    -- WB15, WB16: RI are joined by pairs
     leb 2 count && eqb b RI ⇒ Opened
     ▹ leb 2 count ⇒ Parted
     ▹ eqb b RI && eqb a RI ⇒ Paired (count + 1)
     ▹ eqb b RI ⇒ Opened
+    -- WB999
     ▹ Parted
-
-unfoldable pub numberExit : ℕ → ℕ → Next → ℕ → Exit
-numberExit a b next count =
-    numberRun a b ⇒ Joined
-    ▹ midNumber a b next ⇒ Held
-    ▹ katakanaRun a b ⇒ Joined
-    ▹ toExtender a b ⇒ Joined
-    ▹ fromExtender a b ⇒ Joined
-    ▹ flagExit a b count
-
-unfoldable pub letterExit : ℕ → ℕ → Next → ℕ → Exit
-letterExit a b next count =
-    letterRun a b ⇒ Joined
-    ▹ midLetter a b next ⇒ Held
-    ▹ hebrewSingle a b ⇒ Joined
-    ▹ hebrewDouble a b next ⇒ Held
-    ▹ numberExit a b next count
-
--- WB4, "ignore format and extend characters", is the fourth line
-unfoldable pub pairExit : ℕ → ℕ → ℕ → Next → ℕ → Exit
-pairExit a b pictograph next count =
-    crlf a b ⇒ Joined
-    ▹ byNewline a b ⇒ Parted
-    ▹ zwjPictograph a pictograph ⇒ Joined
-    ▹ member ignorable b ⇒ Ignored
-    ▹ spaceRun a b ⇒ Joined
-    ▹ letterExit a b next count
 
 -- the whole of `check_word`
 unfoldable pub exitOf : WordState → ℕ → ℕ → Next → Exit
 exitOf s b pictograph next =
+    let a = s .previous in
+    -- WB1
     s .first ⇒ Begun
+    -- WB7, WB7c, WB11: the boundary after the middle of a held one
     ▹ s .prevent ⇒ Released
-    ▹ pairExit (s .previous) b pictograph next (s .count)
+    ▹ pairRules a b pictograph (letterRules a b next (numberRules a b next (flagRules a b (s .count))))
 
 -- what an exit leaves behind; the state is no longer first
 abbrev pub told : ℕ → Bool → ℕ → ℕ → WordStep

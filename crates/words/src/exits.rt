@@ -20,29 +20,50 @@ use crate::sets::is_ignorable;
 use classes::word_break;
 use records::Verdict;
 ghost use mathlib.Core.Path.{_≡_};
-ghost use Rattle.words.specs.Rules.{flagExit, numberExit, letterExit, pairExit, exitOf, leaves, ruled};
+ghost use Rattle.words.specs.Rules.{pairRules, letterRules, numberRules, flagRules, exitOf, leaves, ruled};
 
-// WB15, WB16
-pub fn flag_exit(a: u8, b: u8, count: u8) -> Exit
-    ensures { λ r. ⌜ r ≡ flagExit a b count ⌝ }
+pub fn pair_exit(a: u8, b: u8, pictograph: u8, next: Next, count: u8) -> Exit
+    ensures { λ r. ⌜ r ≡ pairRules a b pictograph (letterRules a b next (numberRules a b next (flagRules a b count))) ⌝ }
 {
-    if 2 <= count {
-        if b == word_break::RI {
-            return Exit::Opened;
-        }
+    if is_crlf(a, b) {
+        return Exit::Joined;
+    }
+    if is_by_newline(a, b) {
         return Exit::Parted;
     }
-    if b == word_break::RI {
-        if a == word_break::RI {
-            return Exit::Paired(count + 1);
-        }
-        return Exit::Opened;
+    if is_zwj_pictograph(a, pictograph) {
+        return Exit::Joined;
     }
-    Exit::Parted
+    // WB4
+    if is_ignorable(b) {
+        return Exit::Ignored;
+    }
+    if is_space_run(a, b) {
+        return Exit::Joined;
+    }
+    letter_exit(a, b, next, count)
+}
+
+pub fn letter_exit(a: u8, b: u8, next: Next, count: u8) -> Exit
+    ensures { λ r. ⌜ r ≡ letterRules a b next (numberRules a b next (flagRules a b count)) ⌝ }
+{
+    if is_letter_run(a, b) {
+        return Exit::Joined;
+    }
+    if is_mid_letter(a, b, next) {
+        return Exit::Held;
+    }
+    if is_hebrew_single(a, b) {
+        return Exit::Joined;
+    }
+    if is_hebrew_double(a, b, next) {
+        return Exit::Held;
+    }
+    number_exit(a, b, next, count)
 }
 
 pub fn number_exit(a: u8, b: u8, next: Next, count: u8) -> Exit
-    ensures { λ r. ⌜ r ≡ numberExit a b next count ⌝ }
+    ensures { λ r. ⌜ r ≡ numberRules a b next (flagRules a b count) ⌝ }
 {
     if is_number_run(a, b) {
         return Exit::Joined;
@@ -62,44 +83,23 @@ pub fn number_exit(a: u8, b: u8, next: Next, count: u8) -> Exit
     flag_exit(a, b, count)
 }
 
-pub fn letter_exit(a: u8, b: u8, next: Next, count: u8) -> Exit
-    ensures { λ r. ⌜ r ≡ letterExit a b next count ⌝ }
+// WB15, WB16
+pub fn flag_exit(a: u8, b: u8, count: u8) -> Exit
+    ensures { λ r. ⌜ r ≡ flagRules a b count ⌝ }
 {
-    if is_letter_run(a, b) {
-        return Exit::Joined;
-    }
-    if is_mid_letter(a, b, next) {
-        return Exit::Held;
-    }
-    if is_hebrew_single(a, b) {
-        return Exit::Joined;
-    }
-    if is_hebrew_double(a, b, next) {
-        return Exit::Held;
-    }
-    number_exit(a, b, next, count)
-}
-
-pub fn pair_exit(a: u8, b: u8, pictograph: u8, next: Next, count: u8) -> Exit
-    ensures { λ r. ⌜ r ≡ pairExit a b pictograph next count ⌝ }
-{
-    if is_crlf(a, b) {
-        return Exit::Joined;
-    }
-    if is_by_newline(a, b) {
+    if 2 <= count {
+        if b == word_break::RI {
+            return Exit::Opened;
+        }
         return Exit::Parted;
     }
-    if is_zwj_pictograph(a, pictograph) {
-        return Exit::Joined;
+    if b == word_break::RI {
+        if a == word_break::RI {
+            return Exit::Paired(count + 1);
+        }
+        return Exit::Opened;
     }
-    // WB4
-    if is_ignorable(b) {
-        return Exit::Ignored;
-    }
-    if is_space_run(a, b) {
-        return Exit::Joined;
-    }
-    letter_exit(a, b, next, count)
+    Exit::Parted
 }
 
 pub fn told(previous: u8, prevent: bool, count: u8, answer: u8) -> WordStep

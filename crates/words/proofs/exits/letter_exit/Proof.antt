@@ -1,4 +1,4 @@
-use Rattle.words.specs.Rules.{letterExit}
+use Rattle.words.specs.Rules.{letterRules}
 use Rattle.words.proofs.Chain.{exits}
 use borrow.Author.Needs.{needs}
 use Rattle.words.proofs.exits.letter_exit.Statement.{statement}
@@ -17,7 +17,7 @@ is-letter-run-requires c κs = search needs
 
 -- src/exits.rt:69:9
 returns : tie.Need-returns
-returns c = unfold letterExit in search exits depth 14
+returns c = unfold letterRules in search exits depth 14
 
 -- src/exits.rt:71:8
 is-mid-letter-requires : tie.Need-is-mid-letter-requires
@@ -25,7 +25,7 @@ is-mid-letter-requires c κs = search needs
 
 -- src/exits.rt:72:9
 returns-2 : tie.Need-returns-2
-returns-2 c = unfold letterExit in search exits depth 14
+returns-2 c = unfold letterRules in search exits depth 14
 
 -- src/exits.rt:74:8
 is-hebrew-single-requires : tie.Need-is-hebrew-single-requires
@@ -33,7 +33,7 @@ is-hebrew-single-requires c κs = search needs
 
 -- src/exits.rt:75:9
 returns-3 : tie.Need-returns-3
-returns-3 c = unfold letterExit in search exits depth 14
+returns-3 c = unfold letterRules in search exits depth 14
 
 -- src/exits.rt:77:8
 is-hebrew-double-requires : tie.Need-is-hebrew-double-requires
@@ -41,7 +41,7 @@ is-hebrew-double-requires c κs = search needs
 
 -- src/exits.rt:78:9
 returns-4 : tie.Need-returns-4
-returns-4 c = unfold letterExit in search exits depth 14
+returns-4 c = unfold letterRules in search exits depth 14
 
 -- src/exits.rt:80:5
 number-exit-requires : tie.Need-number-exit-requires
@@ -49,7 +49,7 @@ number-exit-requires c κs = search needs
 
 -- src/exits.rt:65:1
 returns-5 : tie.Need-returns-5
-returns-5 c = unfold letterExit in search exits depth 14
+returns-5 c = unfold letterRules in search exits depth 14
 
 pub letter-exit-spec : {M : Type 1} → statement M
 letter-exit-spec =

@@ -1,4 +1,4 @@
-use Rattle.words.specs.Rules.{numberExit}
+use Rattle.words.specs.Rules.{numberRules}
 use Rattle.words.proofs.Chain.{exits}
 use borrow.Author.Needs.{needs}
 use Rattle.words.proofs.exits.number_exit.Statement.{statement}
@@ -18,7 +18,7 @@ is-number-run-requires c κs = search needs
 
 -- src/exits.rt:48:9
 returns : tie.Need-returns
-returns c = unfold numberExit in search exits depth 14
+returns c = unfold numberRules in search exits depth 14
 
 -- src/exits.rt:50:8
 is-mid-number-requires : tie.Need-is-mid-number-requires
@@ -26,7 +26,7 @@ is-mid-number-requires c κs = search needs
 
 -- src/exits.rt:51:9
 returns-2 : tie.Need-returns-2
-returns-2 c = unfold numberExit in search exits depth 14
+returns-2 c = unfold numberRules in search exits depth 14
 
 -- src/exits.rt:53:8
 is-katakana-run-requires : tie.Need-is-katakana-run-requires
@@ -34,7 +34,7 @@ is-katakana-run-requires c κs = search needs
 
 -- src/exits.rt:54:9
 returns-3 : tie.Need-returns-3
-returns-3 c = unfold numberExit in search exits depth 14
+returns-3 c = unfold numberRules in search exits depth 14
 
 -- src/exits.rt:56:8
 is-to-extender-requires : tie.Need-is-to-extender-requires
@@ -42,7 +42,7 @@ is-to-extender-requires c κs = search needs
 
 -- src/exits.rt:57:9
 returns-4 : tie.Need-returns-4
-returns-4 c = unfold numberExit in search exits depth 14
+returns-4 c = unfold numberRules in search exits depth 14
 
 -- src/exits.rt:59:8
 is-from-extender-requires : tie.Need-is-from-extender-requires
@@ -50,7 +50,7 @@ is-from-extender-requires c κs = search needs
 
 -- src/exits.rt:60:9
 returns-5 : tie.Need-returns-5
-returns-5 c = unfold numberExit in search exits depth 14
+returns-5 c = unfold numberRules in search exits depth 14
 
 -- src/exits.rt:62:5
 flag-exit-requires : tie.Need-flag-exit-requires
@@ -58,7 +58,7 @@ flag-exit-requires c κs = search needs
 
 -- src/exits.rt:44:1
 returns-6 : tie.Need-returns-6
-returns-6 c = unfold numberExit in search exits depth 14
+returns-6 c = unfold numberRules in search exits depth 14
 
 pub number-exit-spec : {M : Type 1} → statement M
 number-exit-spec =

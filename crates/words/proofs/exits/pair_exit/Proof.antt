@@ -1,4 +1,4 @@
-use Rattle.words.specs.Rules.{pairExit}
+use Rattle.words.specs.Rules.{pairRules}
 use Rattle.words.proofs.Chain.{exits}
 use borrow.Author.Needs.{needs}
 use Rattle.words.proofs.exits.pair_exit.Statement.{statement}
@@ -18,7 +18,7 @@ is-crlf-requires c κs = search needs
 
 -- src/exits.rt:87:9
 returns : tie.Need-returns
-returns c = unfold pairExit in search exits depth 14
+returns c = unfold pairRules in search exits depth 14
 
 -- src/exits.rt:89:8
 is-by-newline-requires : tie.Need-is-by-newline-requires
@@ -26,7 +26,7 @@ is-by-newline-requires c κs = search needs
 
 -- src/exits.rt:90:9
 returns-2 : tie.Need-returns-2
-returns-2 c = unfold pairExit in search exits depth 14
+returns-2 c = unfold pairRules in search exits depth 14
 
 -- src/exits.rt:92:8
 is-zwj-pictograph-requires : tie.Need-is-zwj-pictograph-requires
@@ -34,7 +34,7 @@ is-zwj-pictograph-requires c κs = search needs
 
 -- src/exits.rt:93:9
 returns-3 : tie.Need-returns-3
-returns-3 c = unfold pairExit in search exits depth 14
+returns-3 c = unfold pairRules in search exits depth 14
 
 -- src/exits.rt:96:8
 is-ignorable-requires : tie.Need-is-ignorable-requires
@@ -42,7 +42,7 @@ is-ignorable-requires c κs = search needs
 
 -- src/exits.rt:97:9
 returns-4 : tie.Need-returns-4
-returns-4 c = unfold pairExit in search exits depth 14
+returns-4 c = unfold pairRules in search exits depth 14
 
 -- src/exits.rt:99:8
 is-space-run-requires : tie.Need-is-space-run-requires
@@ -50,7 +50,7 @@ is-space-run-requires c κs = search needs
 
 -- src/exits.rt:100:9
 returns-5 : tie.Need-returns-5
-returns-5 c = unfold pairExit in search exits depth 14
+returns-5 c = unfold pairRules in search exits depth 14
 
 -- src/exits.rt:102:5
 letter-exit-requires : tie.Need-letter-exit-requires
@@ -58,7 +58,7 @@ letter-exit-requires c κs = search needs
 
 -- src/exits.rt:83:1
 returns-6 : tie.Need-returns-6
-returns-6 c = unfold pairExit in search exits depth 14
+returns-6 c = unfold pairRules in search exits depth 14
 
 pub pair-exit-spec : {M : Type 1} → statement M
 pair-exit-spec =
