@@ -27,7 +27,7 @@ use Rattle.words.proofs.Accepted.{fine, fine-class, fine-next}
 use Rattle.words.proofs.Answers.{answers-length, answers-cell}
 use Rattle.words.proofs.Effects.{leaves-bit, leaves-class, leaves-accepts, leaves-small, exit-small}
 
--- "The first record answers 1": of any state that is first, whatever comes, and so of every run.
+-- "A first record answers 1", of any state that is first, whatever comes, and so of every run.
 pub first-answers : (s : WordState) (b pictograph : ℕ) (next : Next) → s .first ≡ true → ruled s b pictograph next .answer ≡ 1
 unfolding exitOf leaves
 first-answers s b pictograph next h = rw h
@@ -36,12 +36,12 @@ pub run-begins : (words pictographs : List ℕ) → answerAt words pictographs 0
 unfolding answerAt stateAt exitOf leaves
 run-begins words pictographs = refl
 
--- "One 0 or 1 a record."
+-- "One 0 or 1 a record".
 pub answer-bit : (words pictographs : List ℕ) (i : ℕ) → answerAt words pictographs i ≤ 1
 unfolding answerAt
 answer-bit words pictographs i = leaves-bit _ _ _
 
--- "Count stays 0 to 2": over one record from any such state, and so before every record of every run.
+-- "A count of 0 to 2": it stays so over one record, and so it is before every record of every run.
 pub rule-small : (s : WordState) (b pictograph : ℕ) (next : Next) → s .count ≤ 2 → ruled s b pictograph next .state .count ≤ 2
 rule-small s b pictograph next h = leaves-small s b h (exit-small s b pictograph next)
 
@@ -61,7 +61,7 @@ module _ (words pictographs : List ℕ) (accepted : wordVerdict words pictograph
   state-class (suc i) h =
       leaves-class WordBreak.len (stateAt words pictographs i) (cell words i) _ (state-class i (omega arith)) (fine-class words pictographs accepted i (omega arith))
 
-  -- "The run never meets refusal 8": its state is never a bad one.
+  -- The run never meets refusal 8: its state is never a bad one.
   pub state-good : (i : ℕ) → i ≤ length words → badState (stateAt words pictographs i) ≡ false
   state-good i h = rw (lt-leb _ _ (state-class i h), le-ltb _ _ (count-small words pictographs i))
 
@@ -69,7 +69,7 @@ module _ (words pictographs : List ℕ) (accepted : wordVerdict words pictograph
   unfolding stepVerdict
   step-accepts i h = rw (fine words pictographs accepted i h .0, fine words pictographs accepted i h .1, fine-next words pictographs accepted (i + 1), state-good i (omega arith))
 
-  -- "The run is the fold of the step": the public step, refusals and all, leads from the state before a record to the one after it
+  -- The run is the fold of the step: the public step, refusals and all, leads from the state before a record to the one after it
   -- and gives the run's answer.
   pub run-folds : (i : ℕ) → i < length words
       → stepOf (stateAt words pictographs i) (cell words i) (cell pictographs i) (nextAt words (i + 1))
@@ -106,8 +106,8 @@ module _ (words words′ pictographs pictographs′ : List ℕ) where
       → stepFrom words pictographs (stateAt words pictographs i) i ≡ stepFrom words′ pictographs′ (stateAt words′ pictographs′ j) j
   steps-agree i j s w p n = rw (s, agree-cell words words′ i j w, p, n)
 
-  -- "The answer at a record depends on the state and at most the next record": where these are the same, in any two texts and at any
-  -- two places, so is the answer.
+  -- The answer at a record depends on the state, the record and at most the next one: where these are the same, in any two texts and
+  -- at any two places, so is the answer.
   pub answers-agree : (i j : ℕ) → stateAt words pictographs i ≡ stateAt words′ pictographs′ j → nextAt words i ≡ nextAt words′ j
       → cell pictographs i ≡ cell pictographs′ j → nextAt words (i + 1) ≡ nextAt words′ (j + 1)
       → answerAt words pictographs i ≡ answerAt words′ pictographs′ j
@@ -121,7 +121,7 @@ module _ (words words′ pictographs pictographs′ : List ℕ) where
       ap (λ (r : WordStep). r .state)
       (steps-agree i i (states-alike i (λ k h. w k (omega arith)) (λ k h. p k (omega arith))) (w i (omega arith)) (p i (omega arith)) (w (i + 1) (omega arith)))
 
-  -- So two texts that agree up to the next record have the same answer, whatever follows.
+  -- "The look-ahead is the next record only": two texts that agree up to the next record have the same answer, whatever follows.
   pub answers-alike : (i : ℕ) → Agree words words′ (i + 1) → Alike pictographs pictographs′ i → answerAt words pictographs i ≡ answerAt words′ pictographs′ i
   answers-alike i w p =
       answers-agree i i (states-alike i (λ k h. w k (omega arith)) p) (w i (omega arith)) (p i (omega arith)) (w (i + 1) (omega arith))

@@ -16,8 +16,8 @@ ghost use lib.ListN.{length, drop};
 ghost use Rattle.words.specs.Step.{startState, stepOf};
 ghost use Rattle.words.specs.Run.{nextAt, answers, runVerdict, runCells};
 
-// What the machine keeps between two records: whether none came yet, the class before, whether the next boundary is held shut, and
-// how many RI stand directly before.
+// What the machine keeps between two records: whether none came yet, the class before, whether the next record has no boundary before
+// it, and the count of RI, 0 to 2. Every value is allowed, and the step refuses those that no run has.
 pub struct WordState {
     pub first: bool,
     pub previous: u8,
@@ -48,13 +48,13 @@ pub enum Exit {
     Joined,
     // A boundary.
     Parted,
-    // No boundary, and the record is as if it were not there.
+    // No boundary, and the class before stays.
     Ignored,
     // No boundary, and none before the next record.
     Held,
-    // A boundary before the first RI of a pair.
+    // A boundary before an RI, which is the first of a pair.
     Opened,
-    // No boundary between two RI, with the count from now on.
+    // No boundary between two RI; the new count.
     Paired(u8),
 }
 
