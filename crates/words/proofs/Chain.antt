@@ -1,7 +1,7 @@
 -- A chain of tests in the code, each with its own return, is the chain of exits in the definition.
 -- Assumes nothing.
 use Prim.Native.Nat.{ℕ}
-use mathlib.Core.Path.{_≡_, refl, sym, _∙_}
+use mathlib.Core.Path.{_≡_}
 use mathlib.Core.Bool.{Bool, true, false}
 use mathlib.Core.List.{List}
 use Rattle.records.specs.Refusals.{member, outside}

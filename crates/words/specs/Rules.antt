@@ -7,7 +7,7 @@ use Prim.Native.Nat.{ℕ, _+_}
 use mathlib.Core.Bool.{Bool, true, false, cond, _&&_, _||_}
 use mathlib.Core.List.{List, [], _∷_}
 use lib.Dec.{eqb, leb}
-use Rattle.classes.specs.WordBreak.{Other, CR, LF, NL, Extend, ZWJ, FO, WSegSpace, ALetter, HL, ML, MidNumLet, MN, NU, SQ, DQ, KA, EX, RI}
+use Rattle.classes.specs.WordBreak.{CR, LF, NL, Extend, ZWJ, FO, WSegSpace, ALetter, HL, ML, MidNumLet, MN, NU, SQ, DQ, KA, EX, RI}
 use Rattle.records.specs.Refusals.{member}
 use Rattle.records.specs.declared.Verdict.the-variants.{Accepted}
 use Rattle.words.specs.declared.WordState.{WordState}

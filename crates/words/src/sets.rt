@@ -3,7 +3,7 @@ use crate::Next;
 use classes::word_break;
 ghost use mathlib.Core.Path.{_≡_};
 ghost use mathlib.Core.List.{[], _∷_};
-ghost use Rattle.classes.specs.WordBreak.{HL, ML, MN, NU, KA, EX};
+ghost use Rattle.classes.specs.WordBreak.{ML, MN, NU, KA};
 ghost use Rattle.records.specs.Refusals.{member};
 ghost use Rattle.words.specs.Rules.{AHLetter, MidNumLetQ, newlines, ignorable, nextIn};
 

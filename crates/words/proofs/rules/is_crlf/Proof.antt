@@ -1,5 +1,4 @@
 use Rattle.records.proofs.Chain.{chains}
-use borrow.Author.Needs.{needs}
 use Rattle.words.proofs.rules.is_crlf.Statement.{statement}
 use Rattle.words.proofs.rules.is_crlf.Tie as tie
 use Rattle.words.proofs.rules.is_crlf.Reads as reads

@@ -1,5 +1,4 @@
 use Rattle.records.proofs.Chain.{chains}
-use borrow.Author.Needs.{needs}
 use Rattle.words.proofs.rules.is_hebrew_single.Statement.{statement}
 use Rattle.words.proofs.rules.is_hebrew_single.Tie as tie
 use Rattle.words.proofs.rules.is_hebrew_single.Reads as reads

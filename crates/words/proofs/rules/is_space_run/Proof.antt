@@ -1,5 +1,4 @@
 use Rattle.records.proofs.Chain.{chains}
-use borrow.Author.Needs.{needs}
 use Rattle.words.proofs.rules.is_space_run.Statement.{statement}
 use Rattle.words.proofs.rules.is_space_run.Tie as tie
 use Rattle.words.proofs.rules.is_space_run.Reads as reads

@@ -1,5 +1,4 @@
 use Rattle.records.proofs.Chain.{chains}
-use borrow.Author.Needs.{needs}
 use Rattle.words.proofs.rules.is_zwj_pictograph.Statement.{statement}
 use Rattle.words.proofs.rules.is_zwj_pictograph.Tie as tie
 use Rattle.words.proofs.rules.is_zwj_pictograph.Reads as reads

@@ -1,5 +1,4 @@
 use Rattle.records.proofs.Chain.{chains}
-use borrow.Author.Needs.{needs}
 use Rattle.words.proofs.sets.is_letter.Statement.{statement}
 use Rattle.words.proofs.sets.is_letter.Tie as tie
 use Rattle.words.proofs.sets.is_letter.Reads as reads

@@ -1,5 +1,4 @@
 use Rattle.records.proofs.Chain.{chains}
-use borrow.Author.Needs.{needs}
 use Rattle.words.proofs.sets.is_mid_num_let_q.Statement.{statement}
 use Rattle.words.proofs.sets.is_mid_num_let_q.Tie as tie
 use Rattle.words.proofs.sets.is_mid_num_let_q.Reads as reads
