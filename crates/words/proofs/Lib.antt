@@ -1,0 +1,6 @@
+pub mod Accepted
+pub mod Answers
+pub mod Chain
+pub mod Effects
+pub mod Laws
+pub mod Marked

@@ -1,0 +1,52 @@
+-- The word run: the step over two columns from the start state on.
+use Prim.Native.Nat.{ℕ, zero, suc, _+_}
+use mathlib.Core.Bool.{cond}
+use mathlib.Core.List.{List, [], _∷_, _++_}
+use lib.Dec.{ltb}
+use lib.ListN.{length, drop}
+use Rattle.records.specs.Text.{cell}
+use Rattle.records.specs.Refusals.{refuse, _⊳_, wordVerdict}
+use Rattle.records.specs.declared.Side.the-variants.{Neither}
+use Rattle.records.specs.declared.Verdict.{Verdict}
+use Rattle.records.specs.declared.Verdict.the-variants.{Accepted, Refused}
+use Rattle.words.specs.declared.WordState.{WordState}
+use Rattle.words.specs.declared.WordStep.{WordStep}
+use Rattle.words.specs.declared.Next.{Next}
+use Rattle.words.specs.declared.Next.the-variants.{Class, End}
+use Rattle.words.specs.Rules.{ruled}
+use Rattle.words.specs.Step.{startState}
+
+-- the class of the record at an index, or none past the last
+unfoldable pub nextAt : List ℕ → ℕ → Next
+nextAt words i = cond (ltb i (length words)) (Class (cell words i)) End
+
+-- the call of `check_word` at an index, from a state
+abbrev pub stepFrom : List ℕ → List ℕ → WordState → ℕ → WordStep
+stepFrom words pictographs s i = ruled s (cell words i) (cell pictographs i) (nextAt words (i + 1))
+
+-- the state before the record at an index
+unfoldable pub stateAt : List ℕ → List ℕ → ℕ → WordState
+stateAt words pictographs zero = startState
+stateAt words pictographs (suc i) = stepFrom words pictographs (stateAt words pictographs i) i .state
+
+-- the answer at an index
+unfoldable pub answerAt : List ℕ → List ℕ → ℕ → ℕ
+answerAt words pictographs i = stepFrom words pictographs (stateAt words pictographs i) i .answer
+
+-- the answers to the first n records
+unfoldable pub answers : List ℕ → List ℕ → ℕ → List ℕ
+answers words pictographs zero = []
+answers words pictographs (suc i) = answers words pictographs i ++ (answerAt words pictographs i ∷ [])
+
+-- "The word run takes two columns (word class, pictograph) and checks 1, 2, 4 and 9, in that order"; 9 is "fewer cells than records"
+unfoldable pub runVerdict : List ℕ → List ℕ → ℕ → Verdict
+runVerdict words pictographs cells = wordVerdict words pictographs ⊳ refuse (ltb cells (length words)) 9 Neither 0
+
+-- "Cells past the written ones keep their content", and with a refusal all of them
+abbrev pub cellsUnder : Verdict → List ℕ → List ℕ → List ℕ → List ℕ
+cellsUnder Accepted words pictographs out = answers words pictographs (length words) ++ drop (length words) out
+cellsUnder (Refused number side index) words pictographs out = out
+
+-- what stands in the lent column after a run
+abbrev pub runCells : List ℕ → List ℕ → List ℕ → List ℕ
+runCells words pictographs out = cellsUnder (runVerdict words pictographs (length out)) words pictographs out
