@@ -1,0 +1,25 @@
+//! The judge of crate mode: the parsers of swash 0.2.10, unchanged, over lent columns.
+//! Reads cases from standard input and prints one line of answers for each. Lines that are
+//! not its business (whole mode, full runs, texts that document 01 refuses, lines not of the
+//! layout) are answered `-`.
+
+#![allow(dead_code, unused_imports)] // mod.rs names more than the parsers need.
+
+mod answer;
+mod case;
+mod text;
+
+use std::io::{self, BufWriter, Write};
+
+fn main() -> io::Result<()> {
+    let mut out = BufWriter::new(io::stdout().lock());
+    for line in io::stdin().lines() {
+        let line = line?;
+        if line.trim_matches(' ').is_empty() || line.starts_with('#') {
+            continue;
+        }
+        let answer = case::read(&line).map(|case| answer::of(&case));
+        writeln!(out, "{}", answer.as_deref().unwrap_or("-"))?;
+    }
+    out.flush()
+}
