@@ -26,7 +26,7 @@ pub fn read(line: &str) -> Option<Case> {
         ["W", cells, records] => run(cells, records),
         ["w", state, record, next] => step(state, record, next),
         [parser, "crate", script, place, records, parts] => {
-            clusters(kind(parser, script)?, number(place)?, records, parts)
+            clusters(kind(parser, script)?, number::<u16>(place)?.into(), records, parts)
         }
         _ => None,
     }
@@ -44,7 +44,8 @@ fn kind(parser: &str, script: &str) -> Option<Kind> {
 
 fn run(cells: &str, records: &str) -> Option<Case> {
     let records: Vec<WordRecord> = items(records).map(word_record).collect::<Option<_>>()?;
-    (records.len() <= LONGEST && records.len() <= number(cells)?).then_some(Case::Run(records))
+    let cells: usize = number::<u16>(cells)?.into();
+    (records.len() <= LONGEST.min(cells)).then_some(Case::Run(records))
 }
 
 fn step(state: &str, record: &str, next: &str) -> Option<Case> {
@@ -114,7 +115,7 @@ fn record(index: usize, item: &str, parts: &[Part], kind: Kind) -> Option<Token>
         pictograph: mark(pictograph)?,
         token: index,
     };
-    let (first, count) = (number::<u16>(first)? as usize, number::<u8>(count)? as usize);
+    let (first, count) = (usize::from(number::<u16>(first)?), usize::from(number::<u8>(count)?));
     let own = parts.get(first..first + count).filter(|own| own.len() <= 3)?;
     let info = CharInfo {
         properties,

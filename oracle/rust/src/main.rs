@@ -9,12 +9,12 @@ mod answer;
 mod case;
 mod text;
 
-use std::io::{self, BufWriter, Write};
+use std::io::{self, BufRead, BufWriter, Write};
 
 fn main() -> io::Result<()> {
     let mut out = BufWriter::new(io::stdout().lock());
-    for line in io::stdin().lines() {
-        let line = line?;
+    for line in io::stdin().lock().split(b'\n') {
+        let line = String::from_utf8_lossy(&line?).into_owned();
         if line.trim_matches(' ').is_empty() || line.starts_with('#') {
             continue;
         }
