@@ -176,6 +176,18 @@ def in_order(rng, order, by_kind):
             text += [by_kind[kind]] * (2 if rng.random() < 0.1 else 1)
             if rng.random() < 0.05:
                 text.append(JOINER)
+    return cut_or_stuffed(rng, text)
+
+
+def cut_or_stuffed(rng, text):
+    """Now and then the text ends in the middle of the syllable, or joiners make the cluster
+    full there: every accept meets the end and the limit."""
+    chance = rng.random()
+    if chance < 0.25:
+        return text[:rng.randint(0, len(text))]
+    if chance < 0.35:
+        at = rng.randint(0, len(text))
+        return text[:at] + [JOINER] * max(0, rng.randint(29, 32) - at) + text[at:]
     return text
 
 
@@ -203,7 +215,8 @@ def myanmar_text(rng):
         return chosen(rng, MYANMAR_ALL, 0, 9)
     if shape < 0.6:
         base = MYANMAR_BY_KIND[rng.choice(["C", "IV", "D", "DB"])]
-        return [base] + in_order(rng, MYANMAR_ORDER, MYANMAR_BY_KIND) + chosen(rng, MYANMAR_ALL, 0, 2)
+        after = chosen(rng, MYANMAR_ALL, 0, 2) if rng.random() < 0.5 else []
+        return [base] + in_order(rng, MYANMAR_ORDER, MYANMAR_BY_KIND) + after
     if shape < 0.8:
         return kinzi_text(rng) + chosen(rng, MYANMAR_ALL, 0, 3)
     if shape < 0.9:
@@ -237,7 +250,8 @@ def complex_text(rng, parts):
         head = chosen(rng, [USE_BY_KIND[kind] for kind in ("R", "CS", "N", "S", "IND")], 0, 1)
         base = USE_BY_KIND[rng.choice(["B", "GB", "N", "S"])]
         order = USE_ORDER if rng.random() < 0.8 else "HN N VS HN N HN SMAbv SMBlw".split()
-        text = head + [base] + in_order(rng, order, USE_BY_KIND) + chosen(rng, COMPLEX_ALL[:50], 0, 2)
+        after = chosen(rng, COMPLEX_ALL[:50], 0, 2) if rng.random() < 0.5 else []
+        text = head + [base] + in_order(rng, order, USE_BY_KIND) + after
     elif shape < 0.7:
         text = emoji_text(rng, COMPLEX_ALL[:50])
     elif shape < 0.8:
@@ -247,7 +261,7 @@ def complex_text(rng, parts):
         text = filled(rng, chosen(rng, COMPLEX_ALL[:50], 0, 1) + head, fillers, COMPLEX_ALL[:50])
     else:
         text = chosen(rng, [USE_BY_KIND["B"], COENG, USE_BY_KIND["VPre"], JOINER, EMOJI] + STANDING_ALONE[:2], 0, 4)
-    for _ in range(rng.choice([0, 1, 1, 2, 3])):
+    for _ in range(rng.choice([0, 0, 1, 1, 2, 3])):
         text.insert(rng.randint(0, len(text)), with_parts(rng, parts))
     return text
 
@@ -326,6 +340,30 @@ def exhaustive_complex():
     alphabet = [USE_BY_KIND[kind] for kind in "B GB VS H SUB CMBlw MBlw N HN S SMBlw R".split()]
     for text in itertools.product(alphabet + [JOINER, khmer_sign(0x17BE)], repeat=4):
         yield case("C", 0, text, PARTS[:1], "K")
+
+
+MYANMAR_PREFIXES = ["C", "IV VS", "D H IV VS", "DB VPst", "C PT"]
+USE_PREFIXES = ["B", "GB VS", "R B H B", "CS B SUB", "B H B VS", "N HN N", "S"]
+
+
+def ordered(kind, by_kind, order, prefixes, joiners):
+    """A syllable's start and at most two more of its members, in the grammar's order; with
+    joiners between them the cluster is full somewhere behind."""
+    for prefix in prefixes:
+        start = [by_kind[name] for name in prefix.split()]
+        for length in range(3):
+            for members in sorted(set(itertools.combinations(order, length))):
+                for count in joiners:
+                    fill = [JOINER] * max(0, count - len(start))
+                    yield case(kind, 0, start + fill + [by_kind[name] for name in members])
+
+
+def ordered_myanmar(joiners=(0, 30, 31, 32)):
+    return ordered("M", MYANMAR_BY_KIND, MYANMAR_ORDER, MYANMAR_PREFIXES, joiners)
+
+
+def ordered_complex(joiners=(0, 30, 31, 32)):
+    return ordered("C", USE_BY_KIND, USE_ORDER + ["HN", "N"], USE_PREFIXES, joiners)
 
 
 def exhaustive_places():
@@ -524,7 +562,7 @@ def not_of_layout():
 
 RANDOM = {"S": random_simple, "M": random_myanmar, "C": random_complex, "W": random_words, "full": random_full_runs}
 FIXED = {"exhaustive-S": exhaustive_simple, "exhaustive-M": exhaustive_myanmar, "exhaustive-C": exhaustive_complex,
-         "places": exhaustive_places, "steps": word_steps, "exhaustive-W": exhaustive_words, "refusals": refusals,
+         "ordered-M": ordered_myanmar, "ordered-C": ordered_complex, "places": exhaustive_places, "steps": word_steps, "exhaustive-W": exhaustive_words, "refusals": refusals,
          "long": long_refusals, "layout": not_of_layout}
 
 

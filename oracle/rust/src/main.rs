@@ -7,19 +7,32 @@
 
 mod answer;
 mod case;
+#[cfg(feature = "coverage")]
+mod coverage;
 mod text;
 
 use std::io::{self, BufRead, BufWriter, Write};
 
+/// The answer to a line; in a build for coverage, the blocks that the line takes.
+fn answer(line: &str) -> Option<String> {
+    #[cfg(feature = "coverage")]
+    coverage::clear();
+    let answer = case::read(line).map(|case| answer::of(&case));
+    #[cfg(feature = "coverage")]
+    let answer = answer.map(|_| coverage::taken());
+    answer
+}
+
 fn main() -> io::Result<()> {
     let mut out = BufWriter::new(io::stdout().lock());
+    #[cfg(feature = "coverage")]
+    writeln!(out, "{}", coverage::blocks())?;
     for line in io::stdin().lock().split(b'\n') {
         let line = String::from_utf8_lossy(&line?).into_owned();
         if line.trim_matches(' ').is_empty() || line.starts_with('#') {
             continue;
         }
-        let answer = case::read(&line).map(|case| answer::of(&case));
-        writeln!(out, "{}", answer.as_deref().unwrap_or("-"))?;
+        writeln!(out, "{}", answer(&line).as_deref().unwrap_or("-"))?;
     }
     out.flush()
 }
