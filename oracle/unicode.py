@@ -219,6 +219,13 @@ def ri_after_newline(line, at, _):
     return line.kinds[at] == "RI" and first > 0 and line.kinds[first - 1] in NEWLINES
 
 
+def ri_as_pictograph(line, at, _):
+    """Joined to a ZWJ by WB3c, it does not count."""
+    first = run_of_ri(line, at)[0]
+    back, _ = before_ignored(line, first)
+    return line.kinds[at] == "RI" and first > 0 and line.kinds[back] == "ZWJ" and line.marks[first]
+
+
 WORD_ENTRIES = {
     "X ZWJ pictograph splits as words": zwj_and_pictograph,
     "look-ahead past Extend, FO, ZWJ": look_ahead_past_ignored,
@@ -226,6 +233,7 @@ WORD_ENTRIES = {
     "RI Extend RI: the count starts anew": ri_around_ignored,
     "ZWJ Extend pictograph joins": zwj_ignored_pictograph,
     "RI after a newline is not counted": ri_after_newline,
+    "ZWJ RI(pictograph): that RI is not counted": ri_as_pictograph,
 }
 
 
