@@ -463,6 +463,8 @@ def damaged_texts():
     for damage in map(row, part_damages()):
         yield [sound], [damage, sound_part]
         yield [sound], [sound_part, damage]
+    for decompose, first, count in itertools.product((0, 1), (0, 3, 4), (0, 3, 4, 255)):
+        yield [row(changed(SOUND, _11=decompose, _12=first, _13=count))], [sound_part] * 7
     records = [row(values) for values in (changed(SOUND, _0=0xD800), changed(SOUND, _9=2), changed(SOUND, _13=4),
                                           changed(SOUND, _0=0x34F, _2=9), changed(SOUND, _0=0x17BE))]
     parts = [row(values) for values in (changed(SOUND_PART, _0=0xD800), changed(SOUND_PART, _3=3),
@@ -485,16 +487,22 @@ def khmer_texts():
         yield [row(changed(SOUND, _0=scalar, _11=decompose, _12=first, _13=count))], [lent, other, lent]
 
 
-def refusals():
+def damages():
+    """Each damaged text for every parser, stepping and full run; the cases of one text together."""
     for text, parts in damaged_texts():
-        for kind in "SMC":
-            yield case(kind, 0, text, parts, mode="crate")
-        yield case("C", 0, text, parts, "K", mode="whole")
-        for kind in "smc":
-            yield case(kind, 0, text, parts, mode="whole")
+        yield ([case(kind, 0, text, parts) for kind in "SMC"] + [whole(case("C", 0, text, parts, "K"))]
+               + [whole(case(kind, 0, text, parts)) for kind in "smc"])
+
+
+def khmer_damages():
     for text, parts in khmer_texts():
-        for kind, script in ("C-", "CK", "cK", "S-"):
-            yield case(kind, 0 if kind != "c" else 6, text, parts, script)
+        yield [case("C", 0, text, parts, "K"), case("C", 0, text, parts), case("c", 6, text, parts, "K"),
+               case("S", 0, text, parts)]
+
+
+def refusals():
+    for together in itertools.chain(damages(), khmer_damages()):
+        yield from together
     yield from room_refusals()
     yield from word_refusals()
 
