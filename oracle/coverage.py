@@ -57,7 +57,8 @@ def report(coverage, taken):
         missed = [coverage.places[block][1] for block in blocks if block not in taken]
         lines = collections.Counter(missed)
         shown = " ".join(f"{line}×{count}" for line, count in sorted(lines.items(), key=lambda item: item[0].zfill(6)))
-        print(f"{name}: {len(blocks) - len(missed)} of {len(blocks)} blocks" + (f"; not taken, by line: {shown}" if shown else ""))
+        rest = f"; not taken, by line: {shown}" if shown else ""
+        print(f"{name}: {len(blocks) - len(missed)} of {len(blocks)} blocks{rest}")
 
 
 def main():

@@ -552,7 +552,8 @@ def long_refusals():
 def not_of_layout():
     """Lines near the layout and outside it."""
     sound = row(SOUND)
-    yield from ["", "# a comment", "   ", " # no comment", "W;0;\r", "S", "S;crate", "x;crate;-;0;;", "S;crate;-;0;", "S;crate;-;0;;;", "S;Crate;-;0;;", "S;crate;K;0;;",
+    yield from ["", "# a comment", "   ", " # no comment", "W;0;\r", "S", "S;crate",
+                "x;crate;-;0;;", "S;crate;-;0;", "S;crate;-;0;;;", "S;Crate;-;0;;", "S;crate;K;0;;",
                 "m;whole;K;0;;", "C;crate;k;0;;", "C;crate;;0;;", "S;crate;-;;;", "S;crate;-;-1;;", "S;crate;-;+0;;",
                 "S;crate;-;65536;;", "S;crate;-;00000;;", "S;crate;-;0x0;;", " S;crate;-;0;;", "S;crate;-;0;; ",
                 "S;crate;-;0; ;", "W;0;", "W;0; ", "W;0", "W;0;0", "W;1;0,0,0", "W;1;0,0 ", "W;1;0,256", "W;65536;",
@@ -570,7 +571,8 @@ def not_of_layout():
 
 RANDOM = {"S": random_simple, "M": random_myanmar, "C": random_complex, "W": random_words, "full": random_full_runs}
 FIXED = {"exhaustive-S": exhaustive_simple, "exhaustive-M": exhaustive_myanmar, "exhaustive-C": exhaustive_complex,
-         "ordered-M": ordered_myanmar, "ordered-C": ordered_complex, "places": exhaustive_places, "steps": word_steps, "exhaustive-W": exhaustive_words, "refusals": refusals,
+         "ordered-M": ordered_myanmar, "ordered-C": ordered_complex, "places": exhaustive_places,
+         "steps": word_steps, "exhaustive-W": exhaustive_words, "refusals": refusals,
          "long": long_refusals, "layout": not_of_layout}
 
 

@@ -101,9 +101,11 @@ fn part(item: &str) -> Option<Part> {
 
 fn record(index: usize, item: &str, parts: &[Part], kind: Kind) -> Option<Token> {
     let fields: Vec<&str> = item.split(',').collect();
-    let [scalar, cluster_break, use_class, myanmar, category, word, simple, of_myanmar, complex, pictograph, selector, decompose, first, count] =
-        fields[..]
-    else {
+    #[rustfmt::skip]
+    let [
+        scalar, cluster_break, use_class, myanmar, category, word, simple, of_myanmar, complex,
+        pictograph, selector, decompose, first, count,
+    ] = fields[..] else {
         return None;
     };
     let ch = character(scalar)?;
