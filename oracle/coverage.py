@@ -1,0 +1,75 @@
+#!/usr/bin/env python3
+"""Which blocks of the unchanged Rust files the cases take.
+
+    coverage.py FOLDER [CASES…]     FOLDER with the Rust files; by default all lists
+
+A block is one that LLVM makes without optimisation: each arm of a match and each failure of a
+`?` is one of its own. Prints, for each file, how many of the blocks that the parsers and
+`check_word` have are taken, and the lines of the others.
+"""
+
+import collections
+import pathlib
+import re
+import subprocess
+import sys
+
+HERE = pathlib.Path(__file__).resolve().parent
+FILES = ("simple.rs", "myanmar.rs", "complex.rs", "analyze.rs")
+
+
+class Coverage:
+    """Runs lines of crate mode through the counting build."""
+
+    def __init__(self, folder):
+        build = [HERE / "build", folder, "--coverage"]
+        self.program = subprocess.run(build, stdout=subprocess.PIPE, text=True, check=True).stdout.strip()
+        addresses = self.run([])[0].split()
+        self.places = self.located(addresses)
+
+    def run(self, lines):
+        data = "".join(f"{line}\n" for line in lines).encode("latin-1")
+        answers = subprocess.run([self.program], input=data, stdout=subprocess.PIPE, check=True).stdout
+        return answers.decode().split("\n")[:-1]
+
+    def located(self, addresses):
+        """Block number to file and line, for the functions that the cases are about."""
+        command = ["addr2line", "-f", "-C", "-e", self.program]
+        found = subprocess.run(command, input="\n".join(addresses), stdout=subprocess.PIPE, text=True, check=True)
+        lines = found.stdout.splitlines()
+        places = {}
+        for block, (function, place) in enumerate(zip(lines[::2], lines[1::2])):
+            file, _, line = re.sub(r" \(.*", "", place).rpartition(":")
+            name = pathlib.PurePath(file).name
+            if name in FILES and (name != "analyze.rs" or "check_word" in function):
+                places[block] = name, line
+        return places
+
+    def blocks(self, lines):
+        """For each line the blocks that it takes."""
+        for answer in self.run(lines)[1:]:
+            yield frozenset() if answer == "-" else frozenset(map(int, answer.split())).intersection(self.places)
+
+
+def report(coverage, taken):
+    for name in FILES:
+        blocks = [block for block, (file, _) in coverage.places.items() if file == name]
+        missed = [coverage.places[block][1] for block in blocks if block not in taken]
+        lines = collections.Counter(missed)
+        shown = " ".join(f"{line}×{count}" for line, count in sorted(lines.items(), key=lambda item: item[0].zfill(6)))
+        rest = f"; not taken, by line: {shown}" if shown else ""
+        print(f"{name}: {len(blocks) - len(missed)} of {len(blocks)} blocks{rest}")
+
+
+def main():
+    folder, *files = sys.argv[1:]
+    coverage = Coverage(folder)
+    taken = set()
+    for file in files or sorted((HERE / "lists").glob("*.cases")):
+        for blocks in coverage.blocks(pathlib.Path(file).read_text(encoding="latin-1").split("\n")[:-1]):
+            taken |= blocks
+    report(coverage, taken)
+
+
+if __name__ == "__main__":
+    main()

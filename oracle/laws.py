@@ -1,0 +1,66 @@
+"""What binds answers to each other: full runs to the stepping calls that they consist of, and
+whole mode, for which there is no Rust, to crate mode."""
+
+import re
+
+CALL = re.compile(r"(\d+)>(\d+):([^:]*):")
+
+
+def stepping_twin(line):
+    """The stepping case whose calls a full run in crate mode consists of; else the line."""
+    kind, *rest = line.split(";")
+    if kind not in ("s", "m", "c") or len(rest) != 5:
+        return line
+    rest[2] = "0"
+    return ";".join([kind.upper(), *rest])
+
+
+def rust_judgement(line, answer):
+    """The Rust's answer for a line: `-` where document 01 refuses, None where the Rust has no
+    say (whole mode; a full run without room)."""
+    kind, *rest = line.split(";")
+    if rest[:1] == ["whole"]:
+        return None
+    if kind not in ("s", "m", "c") or answer == "-":
+        return answer
+    tokens = int(answer.split("|")[0])
+    is_number = rest[2].isascii() and rest[2].isdigit()
+    return full_run(answer) if is_number and int(rest[2]) >= 2 * tokens else "-"
+
+
+def full_run(answer):
+    """A full run's answer from the answer of the stepping calls from the start."""
+    cells = []
+    calls = answer.split("|")[1:]
+    for number, call in enumerate(calls):
+        for character in CALL.match(call)[3].split(","):
+            scalar, shape, _, _ = character.split(".")
+            cells.append(f"{scalar}.{shape}.{number}")
+    return f"{len(calls)} {len(cells)}|" + " ".join(cells)
+
+
+def passed_and_taken(call):
+    """How many tokens a call passed, and how many it pushed or noted."""
+    start, following, characters = CALL.match(call).groups()
+    each = characters.split(",")
+    noted = sum([int(character.rpartition(".")[2]) for character in each])
+    return int(following) - int(start), len(each) + noted
+
+
+def whole_fault(line, crate, whole):
+    """What is wrong with an answer in whole mode, or None."""
+    if crate[:2] in ("R ", "? "):
+        return None if crate[:2] == whole[:2] else "refused in one mode only"
+    is_ordinary = all(passed == taken for passed, taken in map(passed_and_taken, crate.split("|")[1:]))
+    if is_ordinary and whole != crate:
+        return "no cluster of 32, no repeat, and still other answers than crate mode: " + whole
+    tokens, *calls = whole.split("|")
+    if any(passed != taken for passed, taken in map(passed_and_taken, calls)):
+        return "a token pushed twice or passed over: " + whole
+    place = line.split(";")[3]
+    for call in calls:
+        start, following, _ = CALL.match(call).groups()
+        if start != place:
+            return "a gap between calls: " + whole
+        place = following
+    return None if place == tokens else "the end is not reached: " + whole

@@ -1,0 +1,114 @@
+#!/usr/bin/env python3
+"""Do the fixed lists notice a wrong reading? Each mutant has one name, one number or one test
+of reading.py changed; the lists have to answer otherwise in some line.
+
+    mutants.py      prints each mutant that no list notices, and the count
+"""
+
+import ast
+import pathlib
+import resource
+import signal
+
+import cases
+import reading
+
+HERE = pathlib.Path(__file__).resolve().parent
+KINDS = "RWwSMCsmc"
+SECONDS, BYTES = 60, 1 << 30  # A mutant that runs on for ever is noticed too.
+
+
+def sites(tree):
+    """What can be changed: constants and comparisons inside functions, and constants in tables."""
+    docstrings = {id(node.body[0].value) for node in ast.walk(tree)
+                  if isinstance(node, (ast.FunctionDef, ast.ClassDef, ast.Module)) and node.body
+                  and isinstance(node.body[0], ast.Expr)}
+    for node in ast.walk(tree):
+        if isinstance(node, ast.Constant) and id(node) not in docstrings and isinstance(node.value, (int, str)):
+            yield node
+        elif isinstance(node, ast.Compare):
+            yield node
+
+
+NEGATED = {ast.Eq: ast.NotEq, ast.NotEq: ast.Eq, ast.In: ast.NotIn, ast.NotIn: ast.In, ast.Lt: ast.LtE,
+           ast.LtE: ast.Lt, ast.Gt: ast.GtE, ast.GtE: ast.Gt, ast.Is: ast.IsNot, ast.IsNot: ast.Is}
+
+
+def change(node):
+    if isinstance(node, ast.Compare):
+        node.ops[0] = NEGATED[type(node.ops[0])]()
+    elif isinstance(node.value, bool):
+        node.value = not node.value
+    elif isinstance(node.value, int):
+        node.value += 1
+    else:
+        node.value += " changed"
+
+
+def unchanged():
+    tree = ast.parse((HERE / "reading.py").read_text())
+    tree.body = [node for node in tree.body if not isinstance(node, ast.If)]
+    return tree
+
+
+def program(tree):
+    return compile(ast.fix_missing_locations(tree), "reading.py", "exec")
+
+
+def mutants():
+    for number in range(len(list(sites(unchanged())))):
+        mutant = unchanged()
+        changed = list(sites(mutant))[number]
+        before = ast.unparse(changed)
+        change(changed)
+        yield changed.lineno, before, program(mutant)
+
+
+def lists():
+    for kind in KINDS:
+        lines = (HERE / f"lists/{kind}.cases").read_text().split("\n")[:-1]
+        answers = (HERE / f"lists/{kind}.answers").read_text().split("\n")[:-1]
+        yield [(line, answer) for line, answer in zip(lines, answers) if answer[:1] != "?"]
+
+
+def take_place(code):
+    """The layout has the reading's types under their own names too."""
+    exec(code, reading.__dict__)
+    for name in ("Part", "Record", "Refusal", "WordState"):
+        setattr(cases, name, getattr(reading, name))
+    for cached in (cases.record, cases.part):
+        cached.cache_clear()
+
+
+def out_of_time(*_):
+    raise TimeoutError
+
+
+def is_noticed(code, pairs_of_lists):
+    """The mutant's functions take the reading's place; anything that goes wrong is noticed."""
+    signal.alarm(SECONDS)
+    try:
+        take_place(code)
+        return any(cases.answer(line) != answer for pairs in pairs_of_lists for line, answer in pairs)
+    except Exception:
+        return True
+    finally:
+        signal.alarm(0)
+
+
+def main():
+    signal.signal(signal.SIGALRM, out_of_time)
+    resource.setrlimit(resource.RLIMIT_AS, (BYTES, BYTES))
+    pairs_of_lists = list(lists())
+    assert not is_noticed(program(unchanged()), pairs_of_lists), "the unchanged reading has to agree"
+    made = missed = 0
+    for line, before, code in mutants():
+        made += 1
+        if not is_noticed(code, pairs_of_lists):
+            missed += 1
+            print(f"reading.py:{line}: {before} is not noticed", flush=True)
+    print(f"{made} mutants, {missed} not noticed")
+
+
+if __name__ == "__main__":
+    main()

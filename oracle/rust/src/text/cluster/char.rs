@@ -1,0 +1,9 @@
+//! Shape classes in document 01's order.
+
+/// Named by mod.rs.
+pub struct Char;
+
+#[derive(Copy, Clone, PartialEq, Eq)]
+pub enum ShapeClass {
+    Base, Mark, Control, Reph, Kinzi, Halant, VPre, VBlw, VMPre, MedialRa, Anusvara, Vs, Zwnj, Zwj, Other,
+}

@@ -1,0 +1,148 @@
+//! Where the Rust asks a bare character for its properties or its decomposition, a character
+//! isn't enough: two records may have one scalar and other columns. So what is asked next is
+//! lent here just before: the parts of a record when its USE class is asked (`Tokens::next`
+//! does this directly before it decomposes), or the word columns for a word run.
+
+use super::{Category, ClusterBreak, LineBreak, UseClass, WordBreak};
+use std::cell::Cell;
+
+#[derive(Copy, Clone, Default)]
+pub struct Properties {
+    pub cluster_break: ClusterBreak,
+    pub use_class: UseClass,
+    pub category: Category,
+    pub word: WordBreak,
+    pub pictograph: bool,
+    /// The token's number in the stream, so that a pushed token says its place.
+    pub token: usize,
+}
+
+impl Properties {
+    pub fn of_word(word: WordBreak, pictograph: bool) -> Self {
+        Self { word, pictograph, ..Self::default() }
+    }
+
+    /// "Parts are never split again", and "a part's emoji mark is no".
+    pub fn use_class(&self) -> (UseClass, bool, bool) {
+        (self.use_class, false, false)
+    }
+
+    pub fn word_break(&self) -> WordBreak {
+        self.word
+    }
+
+    pub fn is_extended_pictographic(&self) -> bool {
+        self.pictograph
+    }
+
+    pub fn line_break(&self) -> LineBreak {
+        LineBreak::XX
+    }
+
+    pub fn bidi_class(&self) -> BidiClass {
+        BidiClass
+    }
+}
+
+/// Bidi is left out; analyze.rs names it.
+pub struct BidiClass;
+
+impl BidiClass {
+    pub fn needs_resolution(&self) -> bool {
+        false
+    }
+}
+
+#[derive(Copy, Clone, Default)]
+pub struct Part {
+    pub ch: char,
+    pub properties: Properties,
+}
+
+/// The 0 to 3 parts of one record.
+#[derive(Copy, Clone, Default)]
+pub struct Parts {
+    parts: [Part; 3],
+    len: usize,
+}
+
+impl Parts {
+    pub fn new(parts: impl Iterator<Item = Part>) -> Self {
+        let mut all = Self::default();
+        for part in parts {
+            all.parts[all.len] = part;
+            all.len += 1;
+        }
+        all
+    }
+
+    pub fn len(&self) -> usize {
+        self.len
+    }
+
+    /// What is left after some parts.
+    pub fn after(self, passed: usize) -> Self {
+        Self::new(self.parts[passed..self.len].iter().copied())
+    }
+
+    /// The parts with their token numbers.
+    pub fn numbered_from(mut self, at: usize) -> Self {
+        for (number, part) in self.parts.iter_mut().enumerate() {
+            part.properties.token = at + number;
+        }
+        self
+    }
+}
+
+#[derive(Copy, Clone)]
+pub enum Lent {
+    Parts(Parts),
+    /// A word record is a character of its own: class and mark, as `words::record` makes it.
+    Words,
+}
+
+thread_local! {
+    static LENT: Cell<Lent> = const { Cell::new(Lent::Words) };
+}
+
+impl Lent {
+    pub fn lend(self) {
+        LENT.set(self);
+    }
+}
+
+/// The scalars of the lent parts, as `decompose` hands them out.
+pub struct Decomposition([char; 3], usize);
+
+impl Decomposition {
+    pub fn chars(&self) -> &[char] {
+        &self.0[..self.1]
+    }
+}
+
+pub trait Codepoint {
+    fn properties(self) -> Properties;
+    fn decompose(self) -> Decomposition;
+}
+
+impl Codepoint for char {
+    /// Of the next lent part, in order: the Rust asks each part once, U+17C1 included.
+    fn properties(self) -> Properties {
+        match LENT.get() {
+            Lent::Words => super::words::properties(self),
+            Lent::Parts(parts) => {
+                let first = parts.parts[..parts.len][0];
+                assert!(first.ch == self, "properties of another character than the lent part");
+                Lent::Parts(parts.after(1)).lend();
+                first.properties
+            }
+        }
+    }
+
+    fn decompose(self) -> Decomposition {
+        let Lent::Parts(parts) = LENT.get() else {
+            panic!("no parts were lent");
+        };
+        Decomposition(parts.parts.map(|part| part.ch), parts.len)
+    }
+}

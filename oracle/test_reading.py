@@ -1,0 +1,98 @@
+#!/usr/bin/env python3
+"""What the readings of document 01 say of single texts, and the refusals that a case cannot
+hold (columns of different lengths)."""
+
+import unittest
+
+import cases
+import generate
+import reading
+from generate import EMOJI, EMOJI_TAIL, JOINER, KINZI, MYANMAR_BY_KIND, USE_BY_KIND, case, record, whole
+
+THREE = [choices[0] for choices in KINZI]
+CR, LF = generate.STANDING_ALONE[:2]
+
+
+def clusters(line):
+    """For each call its shape classes and its signs."""
+    calls = [call.split(":") for call in cases.answer(line).split("|")[1:]]
+    return [([int(character.split(".")[1]) for character in characters.split(",")], signs)
+            for _, characters, signs in calls]
+
+
+def classes(line):
+    return [shapes for shapes, _ in clusters(line)]
+
+
+class Lengths(unittest.TestCase):
+    def test_longer_than_the_limit_comes_first(self):
+        self.assertEqual(reading.lengths_refusal([4097, 4096], [1] * 4), reading.Refusal(1))
+        self.assertEqual(reading.lengths_refusal([0] * 14, [4096, 4097, 0, 0]), reading.Refusal(1))
+
+    def test_columns_of_one_set_differ(self):
+        self.assertEqual(reading.lengths_refusal([3] * 13 + [2], [1] * 4), reading.Refusal(2))
+        self.assertEqual(reading.lengths_refusal([3] * 14, [1, 1, 0, 1]), reading.Refusal(2))
+        self.assertIsNone(reading.lengths_refusal([4096] * 14, [0] * 4))
+
+
+class Readings(unittest.TestCase):
+    def test_joiner_at_the_start_of_a_call(self):
+        text = whole(case("M", 0, [MYANMAR_BY_KIND["C"]] + [JOINER] * 32))
+        self.assertEqual([len(shapes) for shapes in classes(text)], [32, 1])
+        self.assertEqual(clusters(text)[1], ([reading.OTHER], "n-B."))
+
+    def test_repeat_b_goes_by_the_last_tokens_class(self):
+        text = case("M", 0, THREE[:2] + [record(0x1039, myanmar="C")])
+        self.assertEqual(clusters(text), [([reading.KINZI] * 3 + [reading.BASE], "n-..")])
+        text = case("M", 0, THREE + [record(0x34F, myanmar="C")])
+        self.assertEqual(clusters(text), [([reading.KINZI] * 3 + [reading.OTHER, reading.BASE], "n-..")])
+
+    def test_the_33rd_push(self):
+        for after in ([], [MYANMAR_BY_KIND["C"]]):
+            text = case("M", 0, THREE + [JOINER] * 29 + after)
+            self.assertEqual(clusters(text)[0], ([reading.KINZI] * 3 + [reading.OTHER] * 29, "n-.."))
+            self.assertIn("|0>31:", cases.answer(text))
+
+    def test_repeat_b_as_the_32nd(self):
+        answer = cases.answer(case("M", 0, THREE + [JOINER] * 28))
+        self.assertTrue(answer.startswith("31|0>31:"))
+        self.assertEqual(answer.count(","), 31)
+
+    def test_newlines(self):
+        self.assertEqual(len(clusters(case("M", 0, [CR, JOINER, LF]))), 1)
+        self.assertEqual(len(clusters(case("C", 0, [CR, JOINER, LF]))), 1)
+        self.assertEqual(len(clusters(case("S", 0, [CR, JOINER, LF]))), 2)
+        self.assertEqual(len(clusters(case("C", 0, [CR, generate.STANDING_ALONE[2]]))), 1)
+
+    def test_reph_swallows_what_is_no_base(self):
+        self.assertEqual(clusters(case("C", 0, [USE_BY_KIND["R"], LF])), [([reading.REPH, reading.OTHER], "n-B.")])
+        self.assertEqual(clusters(case("C", 0, [USE_BY_KIND["R"]])), [([reading.REPH], "n-..")])
+
+    def test_emoji_zwj_extend(self):
+        text = [EMOJI, EMOJI_TAIL[2], EMOJI_TAIL[4]]
+        self.assertEqual(len(clusters(case("S", 0, text))), 1)
+        for kind in "MC":
+            self.assertEqual([signs[2] for _, signs in clusters(case(kind, 0, text))], [".", "B"])
+
+    def test_below_vowel_and_coeng(self):
+        self.assertEqual(classes(case("C", 0, [USE_BY_KIND["VBlw"]])), [[reading.VBLW]])
+        self.assertEqual(classes(case("C", 0, [USE_BY_KIND["B"], USE_BY_KIND["VBlw"]])), [[reading.BASE, reading.OTHER]])
+        self.assertEqual(classes(case("C", 0, [generate.COENG], script="K")), [[reading.HALANT]])
+        text = [USE_BY_KIND["B"], generate.COENG]
+        self.assertEqual(classes(case("C", 0, text, script="K")), [[reading.BASE, reading.OTHER]])
+        self.assertEqual(classes(case("C", 0, text)), [[reading.BASE, reading.HALANT]])
+
+    def test_many_notes(self):
+        parts = [generate.PARTS[5]] * 3
+        marked = generate.marked(0, 3)
+        answer = cases.answer(case("C", 0, [EMOJI] + [marked] * 4095, parts))
+        self.assertEqual(answer, "12286|0>12286:1F600.0.0.12285:C-..")
+
+    def test_word_step(self):
+        self.assertEqual(cases.answer("w;1,0,1,2;0,0;-"), "1;0,0,1,2")
+        self.assertEqual(cases.answer("w;0,8,1,2;0,0;-"), "0;0,0,0,2")
+        self.assertEqual(cases.answer("w;0,0,0,0;0,0;19"), "R 4 0 r;0,0,0,0")
+
+
+if __name__ == "__main__":
+    unittest.main()

@@ -1,0 +1,293 @@
+#!/usr/bin/env python3
+"""The published break test files of Unicode 15.0 as cases, and a checker of answers to them.
+
+    unicode.py FOLDER cases                 S lines, then W lines
+    unicode.py FOLDER check < ANSWERS       says of each line whether it agrees with the file
+    unicode.py FOLDER run COMMAND…          both at once: COMMAND reads cases, prints answers
+
+FOLDER has auxiliary/ and emoji/ as Debian's unicode-data lays them out. A line that is a plain
+text by document 01's definition must agree; any other may differ where an entry of the known
+differences says so. Counts the lines for each entry; fails where a difference has none.
+"""
+
+import bz2
+import collections
+import gzip
+import pathlib
+import re
+import subprocess
+import sys
+
+import laws
+from generate import case, record, word_case
+from reading import WORD
+
+GRAPHEME_NAMES = {"Control": "CN", "Extend": "EX", "SpacingMark": "SM", "Regional_Indicator": "RI", "Prepend": "PP"}
+WORD_NAMES = {"Newline": "NL", "Format": "FO", "Katakana": "KA", "Hebrew_Letter": "HL", "Single_Quote": "SQ",
+              "Double_Quote": "DQ", "MidLetter": "ML", "MidNum": "MN", "Numeric": "NU", "ExtendNumLet": "EX",
+              "Regional_Indicator": "RI"}
+
+
+# ---- The published files --------------------------------------------------------------------
+
+
+def published(folder, name):
+    """The lines of a file without comments, compressed or not."""
+    for suffix, opening in (("", open), (".gz", gzip.open), (".bz2", bz2.open)):
+        path = pathlib.Path(folder) / (name + suffix)
+        if path.is_file():
+            with opening(path, "rt", encoding="utf-8") as file:
+                return [line for line in (line.split("#")[0].strip() for line in file) if line]
+    raise SystemExit(f"{name} is not in the folder")
+
+
+def property_values(folder, name, names):
+    values = {}
+    for line in published(folder, name):
+        scalars, value = (field.strip() for field in line.split(";"))
+        first, _, last = scalars.partition("..")
+        for scalar in range(int(first, 16), int(last or first, 16) + 1):
+            values[scalar] = names.get(value, value)
+    return values
+
+
+def pictographs(folder):
+    lines = [line for line in published(folder, "emoji/emoji-data.txt") if line.endswith("Extended_Pictographic")]
+    found = set()
+    for line in lines:
+        first, _, last = line.split(";")[0].strip().partition("..")
+        found.update(range(int(first, 16), int(last or first, 16) + 1))
+    return found
+
+
+class Line:
+    """A test line: the scalars, and before each scalar 1 for a boundary or 0; the boundary at
+    the text's end "is not written"."""
+
+    def __init__(self, text, values, other, marks):
+        signs = re.findall("[÷×]", text)
+        self.scalars = [int(scalar, 16) for scalar in re.findall("[0-9A-F]+", text)]
+        self.stated = [1 if sign == "÷" else 0 for sign in signs[:-1]]
+        self.kinds = [values.get(scalar, other) for scalar in self.scalars]
+        self.marks = [int(scalar in marks) for scalar in self.scalars]
+
+
+def test_lines(folder):
+    """The grapheme lines and the word lines."""
+    marks = pictographs(folder)
+    graphemes = property_values(folder, "auxiliary/GraphemeBreakProperty.txt", GRAPHEME_NAMES)
+    words = property_values(folder, "auxiliary/WordBreakProperty.txt", WORD_NAMES)
+    return ([Line(text, graphemes, "XX", marks) for text in published(folder, "auxiliary/GraphemeBreakTest.txt")],
+            [Line(text, words, "Other", marks) for text in published(folder, "auxiliary/WordBreakTest.txt")])
+
+
+def cluster_case(line):
+    return case("S", 0, [record(scalar, kind, simple=mark, pictograph=mark)
+                         for scalar, kind, mark in zip(line.scalars, line.kinds, line.marks)])
+
+
+def words_case(line):
+    return word_case([f"{WORD.index(kind)},{mark}" for kind, mark in zip(line.kinds, line.marks)])
+
+
+def cluster_boundaries(line, answer):
+    starts = {int(laws.CALL.match(call)[1]) for call in answer.split("|")[1:]}
+    return [int(at in starts) for at in range(len(line.scalars))]
+
+
+def word_boundaries(_, answer):
+    return [int(sign) for sign in answer.split(" ")]
+
+
+# ---- Plain texts, by document 01's definition -----------------------------------------------
+
+
+def neighbours(line):
+    return zip(line.kinds, line.kinds[1:])
+
+
+def is_plain_cluster(line):
+    """"Only XX, EX, SM, ZWJ, CR, LF, CN; emoji only on XX; no EX, SM or ZWJ directly after CR,
+    LF or CN; no cluster of 32": the published lines are too short for 32."""
+    return (set(line.kinds) <= {"XX", "EX", "SM", "ZWJ", "CR", "LF", "CN"}
+            and all(kind == "XX" for kind, mark in zip(line.kinds, line.marks) if mark)
+            and not any(a in CONTROLS and b in EXTENSIONS for a, b in neighbours(line))
+            and len(line.kinds) < 32)
+
+
+def is_plain_word(line):
+    """"No Extend, FO, ZWJ; no RI directly after CR, LF or NL"."""
+    return (not set(line.kinds) & set(IGNORED)
+            and not any(a in NEWLINES and b == "RI" for a, b in neighbours(line)))
+
+
+# ---- Known differences: entry by entry, each a rule about one boundary ----------------------
+# A rule gets the line, the number of the scalar before which the boundary is, and whether the
+# file states a boundary where the answers have none ("stated") or the other way round.
+
+CONTROLS = ("CR", "LF", "CN")
+EXTENSIONS = ("EX", "SM", "ZWJ")
+HANGUL = ("L", "V", "T", "LV", "LVT")
+NEWLINES = ("CR", "LF", "NL")
+IGNORED = ("Extend", "FO", "ZWJ")
+
+
+def one_ri_a_cluster(line, at, stated):
+    return not stated and line.kinds[at - 1:at + 1] == ["RI", "RI"]
+
+
+def hangul_cut_after_two(line, at, stated):
+    return not stated and line.kinds[at - 1] in HANGUL and line.kinds[at] in HANGUL
+
+
+def extension_after_control(line, at, stated):
+    return stated and line.kinds[at - 1] in CONTROLS and line.kinds[at] in EXTENSIONS
+
+
+def prepend_before_control(line, at, stated):
+    return stated and line.kinds[at - 1] == "PP" and line.kinds[at] in CONTROLS
+
+
+def mark_on_other_kind(line, at, _):
+    return any(mark and kind != "XX" for kind, mark in zip(line.kinds[:at + 1], line.marks))
+
+
+CLUSTER_ENTRIES = {
+    "one RI a cluster": one_ri_a_cluster,
+    "Hangul is cut after two": hangul_cut_after_two,
+    "extensions after a control": extension_after_control,
+    "Prepend before a control": prepend_before_control,
+    "an emoji mark on a kind other than XX": mark_on_other_kind,
+}
+
+
+def before_ignored(line, at):
+    """The number of the last scalar before `at` that WB4 does not pass over, and how many of
+    those it passed over."""
+    back = at - 1
+    while back > 0 and line.kinds[back] in IGNORED and line.kinds[back - 1] not in NEWLINES:
+        back -= 1
+    return back, at - 1 - back
+
+
+def zwj_and_pictograph(line, at, stated):
+    _, passed = before_ignored(line, at)
+    return not stated and line.kinds[at - 1] == "ZWJ" and passed > 0 and line.marks[at]
+
+
+def is_middle(kind):
+    return kind in ("ML", "MidNumLet", "MN", "SQ", "DQ")
+
+
+def look_ahead_past_ignored(line, at, stated):
+    """The middle, before which the answers part, or what follows it."""
+    back, passed = before_ignored(line, at)
+    is_before_middle = is_middle(line.kinds[at]) and line.kinds[at + 1:at + 2] and line.kinds[at + 1] in IGNORED
+    is_after_middle = is_middle(line.kinds[back]) and passed > 0
+    return not stated and bool(is_before_middle or is_after_middle)
+
+
+def spaces_around_ignored(line, at, stated):
+    back, passed = before_ignored(line, at)
+    return stated and line.kinds[back] == line.kinds[at] == "WSegSpace" and passed > 0
+
+
+def run_of_ri(line, at):
+    """The numbers of the RI that stand before `at`, ignored ones passed over, and `at` itself."""
+    run = [at]
+    while run[0] > 0 and line.kinds[run[0]] == "RI":
+        back, _ = before_ignored(line, run[0])
+        if line.kinds[back] != "RI":
+            break
+        run.insert(0, back)
+    return run
+
+
+def ri_around_ignored(line, at, _):
+    run = run_of_ri(line, at)
+    return line.kinds[at] == "RI" and len(run) > 1 and any(line.kinds[n + 1] in IGNORED for n in run[:-1])
+
+
+def zwj_ignored_pictograph(line, at, stated):
+    """At the start, or after a newline: the ZWJ stays the previous class."""
+    back, passed = before_ignored(line, at)
+    return stated and line.marks[at] and line.kinds[back] == "ZWJ" and passed > 0
+
+
+def ri_after_newline(line, at, _):
+    first = run_of_ri(line, at)[0]
+    return line.kinds[at] == "RI" and first > 0 and line.kinds[first - 1] in NEWLINES
+
+
+def ri_as_pictograph(line, at, _):
+    """Joined to a ZWJ by WB3c, it does not count."""
+    first = run_of_ri(line, at)[0]
+    back, _ = before_ignored(line, first)
+    return line.kinds[at] == "RI" and first > 0 and line.kinds[back] == "ZWJ" and line.marks[first]
+
+
+WORD_ENTRIES = {
+    "X ZWJ pictograph splits as words": zwj_and_pictograph,
+    "look-ahead past Extend, FO, ZWJ": look_ahead_past_ignored,
+    "WSegSpace Extend WSegSpace joins": spaces_around_ignored,
+    "RI Extend RI: the count starts anew": ri_around_ignored,
+    "ZWJ Extend pictograph joins": zwj_ignored_pictograph,
+    "RI after a newline is not counted": ri_after_newline,
+    "ZWJ RI(pictograph): that RI is not counted": ri_as_pictograph,
+}
+
+
+# ---- The checker ----------------------------------------------------------------------------
+
+
+def entries_of(line, given, entries):
+    """For each boundary that differs, the entry that it falls under, or None."""
+    for at, (stated, answered) in enumerate(zip(line.stated, given, strict=True)):
+        if stated != answered:
+            yield at, next((name for name, rule in entries.items() if rule(line, at, bool(stated))), None)
+
+
+def check(title, lines, answers, boundaries, is_plain, entries):
+    counts, faults, plain = collections.Counter(), [], 0
+    for line, answer in zip(lines, answers, strict=True):
+        found = list(entries_of(line, boundaries(line, answer), entries))
+        plain += is_plain(line)
+        counts["agree" if not found else "differ"] += 1
+        counts.update({name for _, name in found})
+        if found and (is_plain(line) or any(name is None for _, name in found)):
+            faults.append((line, found))
+    print(f"{title}: {len(lines)} lines, {plain} of them plain; {counts['agree']} agree, {counts['differ']} differ")
+    for name in entries:
+        print(f"  {counts[name]:5} {name}")
+    for line, found in faults:
+        print(f"  NO ENTRY: {line.kinds} marks {line.marks} stated {line.stated}: {found}")
+    return len(faults)
+
+
+def check_all(folder, answers):
+    clusters, words = test_lines(folder)
+    faults = check("GraphemeBreakTest", clusters, answers[:len(clusters)], cluster_boundaries, is_plain_cluster,
+                   CLUSTER_ENTRIES)
+    faults += check("WordBreakTest", words, answers[len(clusters):], word_boundaries, is_plain_word, WORD_ENTRIES)
+    return 1 if faults else 0
+
+
+def all_cases(folder):
+    clusters, words = test_lines(folder)
+    return [*map(cluster_case, clusters), *map(words_case, words)]
+
+
+def main():
+    folder, action, *command = sys.argv[1:]
+    if action == "cases":
+        print("\n".join(all_cases(folder)))
+        return 0
+    if action == "check":
+        return check_all(folder, sys.stdin.read().splitlines())
+    data = "".join(f"{line}\n" for line in all_cases(folder))
+    ran = subprocess.run(command, input=data, stdout=subprocess.PIPE, text=True, check=True)
+    return check_all(folder, ran.stdout.splitlines())
+
+
+if __name__ == "__main__":
+    sys.exit(main())
