@@ -1,6 +1,6 @@
 -- The simple parser, src/text/cluster/simple.rs: a rule for its `parse`, for its `parse_extension` and for each longer arm. It goes
 -- by the cluster break, and its `accept` and `accept_any` push Base. The emoji loop and its `parse_emoji_extension` are the shared `emojis`.
-use mathlib.Core.List.{List, [], _∷_}
+use mathlib.Core.List.{[], _∷_}
 use Rattle.classes.specs.declared.Shape.the-variants.{Base, Mark, Control, Vs, Zwnj, Zwj}
 use Rattle.classes.specs.ClusterBreak.{CN, CR, LF, L, «V», T, LV, LVT, RI, EX, SM, ZWJ, PP}
 use Rattle.classes.specs.Scalar.{ZWNJ}
