@@ -55,9 +55,9 @@ unfoldable pub kinzi : Rule
 kinzi = choose isKinzi (thrice Kinzi) skip
 
 unfoldable pub syllable : Rule
-syllable = kinzi ▸ choose (oneOf (C ∷ IV ∷ D ∷ DB ∷ [])) base (mark setBroken ▸ take Other)
+syllable = choose (oneOf (C ∷ IV ∷ D ∷ DB ∷ [])) base (mark setBroken ▸ take Other)
 
--- the classes whose characters stand alone
+-- `parse`, the arm `P | S | R | WJ | D0`
 abbrev pub alone : List ℕ
 alone = P ∷ S ∷ R ∷ WJ ∷ D0 ∷ []
 
@@ -69,4 +69,4 @@ unfoldable pub cluster : Rule
 cluster = choose isEmoji emojis
     (choose (is O) otherArm
     (choose isAlone (take Other)
-    syllable))
+    (kinzi ▸ syllable)))

@@ -5,7 +5,6 @@ use classes::scalar;
 use parse::Parse;
 use parse::state::token_at;
 ghost use mathlib.Core.Path.{_≡_};
-ghost use mathlib.Core.List.{[], _∷_};
 ghost use Prim.Native.Nat.{_+_};
 ghost use Rattle.classes.specs.MyanmarClass as class;
 ghost use Rattle.classes.specs.Scalar.{kinziFirsts};
@@ -185,7 +184,6 @@ fn parse_kinzi(s: Parse, text: &[u64]) -> Parse
 fn parse_syllable(s: Parse, text: &[u64]) -> Parse
     ensures { λ r. ⌜ r ≡ run syllable (now (text .entry)) s ⌝ }
 {
-    let s = parse_kinzi(s, text);
     if s.kind_in4(text, C, IV, D, DB) {
         return parse_base(s, text);
     }
@@ -228,5 +226,6 @@ pub fn parse(s: Parse, text: &[u64]) -> Parse
     if is_alone(s, text) {
         return s.accept_any_as(text, Shape::Other);
     }
+    let s = parse_kinzi(s, text);
     parse_syllable(s, text)
 }

@@ -32,6 +32,9 @@ accept-any-as-requires c κs = search needs
 returns-3 : tie.Need-returns-3
 returns-3 c = unfold cluster in search rules depth 14
 
+parse-kinzi-requires : tie.Need-parse-kinzi-requires
+parse-kinzi-requires c κs = search needs
+
 parse-syllable-requires : tie.Need-parse-syllable-requires
 parse-syllable-requires c κs = search needs
 
@@ -51,5 +54,6 @@ parse-spec =
     is-alone-requires
     accept-any-as-requires
     returns-3
+    parse-kinzi-requires
     parse-syllable-requires
     returns-4)

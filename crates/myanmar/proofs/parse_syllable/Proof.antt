@@ -5,9 +5,6 @@ use borrow.Author.Needs.{needs}
 use Rattle.myanmar.proofs.parse_syllable.Statement.{statement}
 use Rattle.myanmar.proofs.parse_syllable.Tie as tie
 
-parse-kinzi-requires : tie.Need-parse-kinzi-requires
-parse-kinzi-requires c κs = search needs
-
 kind-in4-requires : tie.Need-kind-in4-requires
 kind-in4-requires c κs = search needs
 
@@ -30,7 +27,6 @@ pub parse-syllable-spec : {M : Type 1} → statement M
 parse-syllable-spec =
     tie.close
     (tie.spec
-    parse-kinzi-requires
     kind-in4-requires
     parse-base-requires
     returns
