@@ -1,1 +1,4 @@
 pub mod Given
+pub mod Progress
+pub mod Marked
+pub mod Spent
