@@ -20,7 +20,7 @@ use Rattle.parse.specs.declared.Parse.{Parse}
 use Rattle.parse.specs.declared.Flow.{Flow}
 use Rattle.parse.specs.declared.Flow.the-variants.{GoOn, Stop, Full, End}
 use Rattle.parse.specs.State.{tokenAt, filledAt, going, isGoing, withFlow, putOf, movedOf, onJoiner, hop, stepOf, pushOf}
-use Rattle.parse.specs.Rule.{Rule, Test, run, take, many, manyAs, acceptAs, _▸_, while, is, oneOf, member, holds}
+use Rattle.parse.specs.Rule.{Rule, Test, skip, run, take, many, manyAs, acceptAs, _▸_, while, is, oneOf, member, holds}
 use Rattle.parse.proofs.Loop.{false-true, both, if-intro, by-test, loop-keeps}
 use Rattle.parse.proofs.Moves.{moved-case, joiner-going, put-same}
 use Rattle.parse.proofs.Runs.{run-still, run-seq, run-else, run-stays, holds-going}
@@ -73,3 +73,47 @@ module _ (text : List ℕ) (k : ℕ) where
       turn q m h = if-intro Spent (going q) _ _
           (λ g. push-spent Other q m g (inl (eqb-true _ _ (both (going q) _ h .1))))
           (λ g. absurd (false-true (sym g ∙ holds-going text (is k) q h)))
+
+-- a class that is in the list is not that of a token whose class is not
+not-there : (ks : List ℕ) (k x : ℕ) → member ks k ≡ false → member ks x ≡ true → eqb k x ≡ false
+not-there ks k x n m = by-test (eqb k x) (λ e. absurd (false-true (sym n ∙ ap (member ks) (eqb-true k x e) ∙ m))) (λ e. e)
+
+abbrev all : (ℕ → Bool) → List ℕ → Bool
+all p [] = true
+all p (x ∷ xs) = cond (p x) (all p xs) false
+
+not-one : (ks : List ℕ) (k : ℕ) (xs : List ℕ) → member ks k ≡ false → all (member ks) xs ≡ true → member xs k ≡ false
+not-one ks k [] n m = refl
+not-one ks k (x ∷ xs) n m = rw (not-there ks k x n (both (member ks x) _ m .0)) (not-one ks k xs n (both (member ks x) _ m .1))
+
+no-test : (g b : Bool) → b ≡ false → cond g b false ≡ false
+no-test true b e = e
+no-test false b e = refl
+
+-- a parse whose current token has none of the classes: the tail does nothing
+module _ (text : List ℕ) (s : Parse) (n : member syllableClasses (kindOf (tokenAt text (s .at))) ≡ false) where
+  accept-idle : (k : ℕ) (c : Shape) → member syllableClasses k ≡ true → run (acceptAs k c) text s ≡ s
+  accept-idle k c m = run-else (is k) (take c) skip text s (no-test (going s) _ (not-there syllableClasses _ k n m)) ∙ unfold run in refl
+
+  many-idle : (k : ℕ) (c : Shape) → member syllableClasses k ≡ true → run (manyAs k c) text s ≡ s
+  many-idle k c m = run-stays (is k) (take c) text s (no-test (going s) _ (not-there syllableClasses _ k n m))
+
+  while-idle : (ks : List ℕ) (a : Rule) → all (member syllableClasses) ks ≡ true → run (while (oneOf ks) a) text s ≡ s
+  while-idle ks a m = run-stays (oneOf ks) a text s (unfold oneOf in no-test (going s) _ (not-one syllableClasses _ ks n m))
+
+  seq-idle : (a b : Rule) → run a text s ≡ s → run b text s ≡ s → run (a ▸ b) text s ≡ s
+  seq-idle a b e h = run-seq a b text s ∙ ap (run b text) e ∙ h
+
+  ruleset idle = (accept-idle, many-idle, while-idle, seq-idle)
+
+  medials-idle : run medials text s ≡ s
+  medials-idle = unfold medials in search idle depth 12
+
+  vowels-idle : run vowels text s ≡ s
+  vowels-idle = unfold vowels in search idle depth 12
+
+  finals-idle : run finals text s ≡ s
+  finals-idle = unfold finals in search idle depth 12
+
+  pub syllable-idle : (khmer : Bool) → run (syllable khmer) text s ≡ s
+  syllable-idle khmer = unfold syllable opensHalant isVowelModifier in search (idle, medials-idle, vowels-idle, finals-idle) depth 12
