@@ -31,7 +31,4 @@ class-here k x a b e = rw (eq-eqb k x e)
 pub class-next : (k x : ℕ) (a b r : Shape) → (k ≡ x → ⊥) → r ≡ b → r ≡ cond (eqb k x) a b
 class-next k x a b r n e = e ∙ rw (ne-eqb k x n)
 
-pub class-last : (r : Shape) → r ≡ r
-class-last r = refl
-
-pub ruleset shapes = (class-here, class-next, class-last)
+pub ruleset shapes = (class-here, class-next, refl)

@@ -1,34 +1,30 @@
 -- "With refusal 6 this pushes nothing more": a run of consonant marks that ended at a cluster of 32 or at the end of the text has left as
 -- current token one of its own class or a U+034F, and the tail asks for neither. Assumes nothing.
-use Prim.Native.Nat.{ℕ, _<_}
+use Prim.Native.Nat.{ℕ}
 use mathlib.Core.Path.{_≡_, refl, sym, _∙_, ap}
 use mathlib.Core.Bool.{Bool, true, false, cond}
 use mathlib.Core.List.{List, [], _∷_}
 use mathlib.Core.Logic.{_⊎_, inl, inr}
-use native.Mathlib.Omega.{arith}
-use lib.Dec.{eqb, ltb}
+use lib.Dec.{eqb}
 use lib.ListN.{length}
-use borrow.Author.Tests.{ltb-true, ltb-false, eqb-true}
+use borrow.Author.Tests.{eqb-true}
 use Rattle.classes.specs.declared.Shape.{Shape}
 use Rattle.classes.specs.declared.Shape.the-variants.{Other}
 use Rattle.classes.specs.declared.Mode.{Mode}
-use Rattle.classes.specs.declared.Mode.the-variants.{Crate, Whole}
+use Rattle.classes.specs.declared.Mode.the-variants.{Crate}
 use Rattle.classes.specs.Scalar.{CGJ}
-use Rattle.classes.specs.UseClass.{CMAbv, CMBlw, SUB, H}
 use Rattle.token.specs.Token.{scalarOf, kindOf}
 use Rattle.parse.specs.declared.Parse.{Parse}
-use Rattle.parse.specs.declared.Flow.{Flow}
-use Rattle.parse.specs.declared.Flow.the-variants.{GoOn, Stop, Full, End}
-use Rattle.parse.specs.State.{tokenAt, filledAt, going, isGoing, withFlow, putOf, movedOf, onJoiner, hop, stepOf, pushOf}
-use Rattle.parse.specs.Rule.{Rule, Test, skip, run, take, many, manyAs, acceptAs, _▸_, while, is, oneOf, member, holds}
+use Rattle.parse.specs.State.{tokenAt, filledAt, going, putOf, movedOf, onJoiner, hop, stepOf, pushOf}
+use Rattle.parse.specs.Rule.{Rule, skip, run, take, many, manyAs, acceptAs, _▸_, while, is, oneOf, member, holds}
 use Rattle.parse.proofs.Loop.{false-true, both, if-intro, by-test, loop-keeps}
 use Rattle.parse.proofs.Moves.{moved-case, joiner-going, put-same}
-use Rattle.parse.proofs.Runs.{run-still, run-seq, run-else, run-stays, holds-going}
-use Rattle.complex.specs.Grammar.{opensHalant, halantBase, isVowelModifier, vowelModifier, medials, vowels, finals, syllable, consonantMarks, markedSyllable}
-use Rattle.complex.specs.Ignored.{syllableClasses, Unbarred, ignoring, markedSyllableAsRust, Same}
+use Rattle.parse.proofs.Runs.{run-seq, run-else, run-stays, holds-going}
+use Rattle.complex.specs.Grammar.{opensHalant, isVowelModifier, medials, vowels, finals, syllable}
+use Rattle.complex.specs.Ignored.{syllableClasses}
 
 -- a token of the run's class, or a U+034F
-abbrev Passed : ℕ → ℕ → Type 0
+abbrev pub Passed : ℕ → ℕ → Type 0
 Passed k t = (kindOf t ≡ k) ⊎ (scalarOf t ≡ CGJ)
 
 filled-crate : (m : Mode) (n i : ℕ) → m ≡ Crate → filledAt m n i ≡ i
@@ -64,7 +60,7 @@ module _ (text : List ℕ) (k : ℕ) where
       (λ q i h. put-spent Other q (i .0) (joiner-going text q h) (inr (joiner-scalar text q h)))
       _ (put-spent c s m g p)
 
-  many-spent : (s : Parse) → s .mode ≡ Crate → going s ≡ true → Spent (run (many k) text s)
+  pub many-spent : (s : Parse) → s .mode ≡ Crate → going s ≡ true → Spent (run (many k) text s)
   unfolding run
   many-spent s m g = loop-keeps text (holds text (is k)) (run (take Other) text) Spent
       (λ q i h. turn q (i .0) h) s (m, λ f. absurd (false-true (sym f ∙ g)))

@@ -14,7 +14,6 @@ use Rattle.classes.specs.ClusterBreak.{XX}
 use Rattle.classes.specs.Category as Category
 use Rattle.classes.specs.Scalar.{CR, LF, CGJ, KHMER-E, KHMER-OE}
 use Rattle.token.specs.Token.{packed}
-use Rattle.parse.specs.declared.Parse.{Parse}
 use Rattle.parse.specs.declared.Pushed.{Pushed}
 use Rattle.parse.specs.declared.Info.{Info}
 use Rattle.parse.specs.declared.Space.{Space}

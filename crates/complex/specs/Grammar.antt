@@ -3,7 +3,7 @@
 -- the script is Khmer. The emoji loop and the arm `O` are the shared `emojis` and `otherArm`.
 use Prim.Native.Nat.{ℕ}
 use mathlib.Core.Bool.{Bool, true, false, cond}
-use mathlib.Core.List.{List, [], _∷_}
+use mathlib.Core.List.{[], _∷_}
 use lib.Dec.{eqb}
 use Rattle.classes.specs.declared.Shape.{Shape}
 use Rattle.classes.specs.declared.Shape.the-variants.{Base, Halant, Reph, Vs, Zwnj, Zwj, Other, VPre as VPre-shape, VBlw as VBlw-shape, VMPre as VMPre-shape}
@@ -42,7 +42,7 @@ symbolMarks = many SMAbv ▸ many SMBlw
 unfoldable pub consonantMarks : Rule
 consonantMarks = many CMAbv ▸ many CMBlw
 
--- "In Khmer, U+17D2" is Other after a base
+-- U+17D2 in Khmer: Other after a base, where any other halant is Halant
 unfoldable pub isCoeng : Bool → Test
 isCoeng khmer = given khmer (isScalar COENG)
 
