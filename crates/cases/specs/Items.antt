@@ -35,7 +35,7 @@ unfoldable pub stateField : ℕ → List ℕ → Bool
 stateField k xs = cond (eqb k 0) (fits 10 1 xs) (cond (eqb k 2) (fits 10 1 xs) (fits 10 255 xs))
 
 -- field k of an item; "word = 2 decimals up to 255"
-abbrev pub isField : Kind → ℕ → List ℕ → Bool
+unfoldable pub isField : Kind → ℕ → List ℕ → Bool
 isField Record k xs = recordField k xs
 isField Part k xs = partField k xs
 isField Word k xs = fits 10 255 xs

@@ -1,3 +1,4 @@
+use Rattle.cases.proofs.Fields.{fields}
 use borrow.Author.Needs.{needs}
 use Rattle.cases.proofs.columns.field32.Statement.{statement}
 use Rattle.cases.proofs.columns.field32.Tie as tie
@@ -24,11 +25,11 @@ enum-told c = search needs
 
 -- src/columns.rt:33:1
 returns : tie.Need-returns
-returns c = ?
+returns c = search fields
 
 -- src/columns.rt:33:1
 returns-2 : tie.Need-returns-2
-returns-2 c = ?
+returns-2 c = search fields
 
 pub field32-spec : {M : Type 1} → statement M
 field32-spec =

@@ -1,3 +1,4 @@
+use Rattle.cases.proofs.Fields.{fields}
 use borrow.Author.Needs.{needs}
 use Rattle.cases.proofs.items.fits.Statement.{statement}
 use Rattle.cases.proofs.items.fits.Tie as tie
@@ -19,11 +20,11 @@ enum-told-2 c = search needs
 
 -- src/items.rt:35:1
 returns : tie.Need-returns
-returns c = ?
+returns c = search fields
 
 -- src/items.rt:35:1
 returns-2 : tie.Need-returns-2
-returns-2 c = ?
+returns-2 c = search fields
 
 pub fits-spec : {M : Type 1} → statement M
 fits-spec = tie.close (tie.spec read-number-requires enum-told enum-told-2 returns returns-2)

@@ -1,3 +1,4 @@
+use Rattle.cases.proofs.Fields.{kinds}
 use borrow.Author.Needs.{needs}
 use Rattle.cases.proofs.items.is_field.Statement.{statement}
 use Rattle.cases.proofs.items.is_field.Tie as tie
@@ -42,19 +43,19 @@ is-state-field-requires c κs = search needs
 
 -- src/items.rt:77:1
 returns : tie.Need-returns
-returns c = ?
+returns c = search kinds
 
 -- src/items.rt:77:1
 returns-2 : tie.Need-returns-2
-returns-2 c = ?
+returns-2 c = search kinds
 
 -- src/items.rt:77:1
 returns-3 : tie.Need-returns-3
-returns-3 c = ?
+returns-3 c = search kinds
 
 -- src/items.rt:77:1
 returns-4 : tie.Need-returns-4
-returns-4 c = ?
+returns-4 c = search kinds
 
 pub is-field-spec : {M : Type 1} → statement M
 is-field-spec =

@@ -1,3 +1,5 @@
+use Rattle.cases.proofs.Choices.{choices}
+use Rattle.cases.specs.Items.{partField}
 use borrow.Author.Needs.{needs}
 use Rattle.cases.proofs.items.is_part_field.Statement.{statement}
 use Rattle.cases.proofs.items.is_part_field.Tie as tie
@@ -11,7 +13,7 @@ fits-requires c κs = search needs
 
 -- src/items.rt:60:9
 returns : tie.Need-returns
-returns c = ?
+returns c = unfold partField in search choices
 
 -- src/items.rt:62:5
 fits-requires-2 : tie.Need-fits-requires-2
@@ -19,7 +21,7 @@ fits-requires-2 c κs = search needs
 
 -- src/items.rt:56:1
 returns-2 : tie.Need-returns-2
-returns-2 c = ?
+returns-2 c = unfold partField in search choices
 
 pub is-part-field-spec : {M : Type 1} → statement M
 is-part-field-spec = tie.close (tie.spec fits-requires returns fits-requires-2 returns-2)
