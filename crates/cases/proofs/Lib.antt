@@ -1,3 +1,4 @@
+pub mod Asks
 pub mod Choices
 pub mod Digits
 pub mod Fields

@@ -1,3 +1,6 @@
+use Rattle.cases.proofs.Asks.{asks}
+use Rattle.cases.specs.Lines.{kindLine}
+use mathlib.Core.Path.{refl}
 use borrow.Author.Needs.{needs}
 use Rattle.cases.proofs.lines.kind_line.Statement.{statement}
 use Rattle.cases.proofs.lines.kind_line.Tie as tie
@@ -18,7 +21,7 @@ text-line-requires c κs = search needs
 
 -- src/lines.rt:250:9
 returns : tie.Need-returns
-returns c = ?
+returns c = unfold kindLine in search asks depth 8
 
 -- src/lines.rt:254:13
 words-line-requires : tie.Need-words-line-requires
@@ -26,11 +29,11 @@ words-line-requires c κs = search needs
 
 -- src/lines.rt:254:13
 returns-2 : tie.Need-returns-2
-returns-2 c = ?
+returns-2 c = unfold kindLine in search asks depth 8
 
 -- src/lines.rt:256:9
 returns-3 : tie.Need-returns-3
-returns-3 c = ?
+returns-3 c = unfold kindLine in search asks depth 8
 
 -- src/lines.rt:260:13
 step-line-requires : tie.Need-step-line-requires
@@ -38,15 +41,15 @@ step-line-requires c κs = search needs
 
 -- src/lines.rt:260:13
 returns-4 : tie.Need-returns-4
-returns-4 c = ?
+returns-4 c = unfold kindLine in search asks depth 8
 
 -- src/lines.rt:245:1
 returns-5 : tie.Need-returns-5
-returns-5 c = ?
+returns-5 c = unfold kindLine in search asks depth 8
 
 -- src/lines.rt:245:1
 returns-6 : tie.Need-returns-6
-returns-6 c = ?
+returns-6 c = unfold kindLine in search asks depth 8
 
 pub kind-line-spec : {M : Type 1} → statement M
 kind-line-spec =

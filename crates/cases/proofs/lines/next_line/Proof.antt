@@ -1,3 +1,7 @@
+use native.Mathlib.Omega.{arith}
+use Prim.Native.Nat.{_≤_}
+use Rattle.cases.proofs.Fields.{value-within}
+use Rattle.cases.proofs.Asks.{steps}
 use borrow.Author.Needs.{needs}
 use Rattle.cases.proofs.lines.next_line.Statement.{statement}
 use Rattle.cases.proofs.lines.next_line.Tie as tie
@@ -22,7 +26,7 @@ step-to-requires c κs = search needs
 
 -- src/lines.rt:226:9
 returns : tie.Need-returns
-returns c = ?
+returns c = search steps
 
 -- src/lines.rt:228:32
 read-number-requires : tie.Need-read-number-requires
@@ -38,11 +42,11 @@ enum-told c = search needs
 
 -- src/lines.rt:229:9
 returns-2 : tie.Need-returns-2
-returns-2 c = ?
+returns-2 c = search steps
 
 -- src/lines.rt:231:31
 cast-t4 : tie.Need-cast-t4
-cast-t4 c = search needs
+cast-t4 c = let h : c .before .class .given .0 .0 ≤ 255 = value-within _ _ _ _ (c .before .before .before .read-number .ensures) _ (c .before .class .given .1) in omega arith
 
 -- src/lines.rt:231:5
 step-to-requires-2 : tie.Need-step-to-requires-2
@@ -50,7 +54,7 @@ step-to-requires-2 c κs = search needs
 
 -- src/lines.rt:221:1
 returns-3 : tie.Need-returns-3
-returns-3 c = ?
+returns-3 c = search steps
 
 pub next-line-spec : {M : Type 1} → statement M
 next-line-spec =

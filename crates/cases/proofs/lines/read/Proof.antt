@@ -1,3 +1,4 @@
+use Rattle.cases.proofs.Asks.{line-skipped, line-read}
 use borrow.Author.Needs.{needs}
 use Rattle.cases.proofs.lines.read.Statement.{statement}
 use Rattle.cases.proofs.lines.read.Tie as tie
@@ -14,7 +15,7 @@ is-skipped-requires c κs = search needs
 
 -- src/lines.rt:270:9
 returns : tie.Need-returns
-returns c = ?
+returns c = search line-skipped
 
 -- src/lines.rt:272:26
 part-requires : tie.Need-part-requires
@@ -30,7 +31,7 @@ kind-line-requires c κs = search needs
 
 -- src/lines.rt:266:1
 returns-2 : tie.Need-returns-2
-returns-2 c = ?
+returns-2 c = search line-read
 
 pub read-spec : {M : Type 1} → statement M
 read-spec =

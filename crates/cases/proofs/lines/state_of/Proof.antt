@@ -1,3 +1,4 @@
+use Rattle.cases.proofs.Asks.{state-read}
 use borrow.Author.Needs.{needs}
 use Rattle.cases.proofs.lines.state_of.Statement.{statement}
 use Rattle.cases.proofs.lines.state_of.Tie as tie
@@ -23,7 +24,7 @@ field8-requires-4 c κs = search needs
 
 -- src/lines.rt:198:1
 returns : tie.Need-returns
-returns c = ?
+returns c = search state-read
 
 pub state-of-spec : {M : Type 1} → statement M
 state-of-spec =

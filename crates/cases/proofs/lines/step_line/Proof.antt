@@ -1,3 +1,6 @@
+use Rattle.cases.proofs.Asks.{asks}
+use Rattle.cases.specs.Lines.{stepLine}
+use mathlib.Core.Path.{refl}
 use borrow.Author.Needs.{needs}
 use Rattle.cases.proofs.lines.step_line.Statement.{statement}
 use Rattle.cases.proofs.lines.step_line.Tie as tie
@@ -29,15 +32,15 @@ next-line-requires c κs = search needs
 
 -- src/lines.rt:239:13
 returns : tie.Need-returns
-returns c = ?
+returns c = unfold stepLine in search asks depth 8
 
 -- src/lines.rt:234:1
 returns-2 : tie.Need-returns-2
-returns-2 c = ?
+returns-2 c = unfold stepLine in search asks depth 8
 
 -- src/lines.rt:234:1
 returns-3 : tie.Need-returns-3
-returns-3 c = ?
+returns-3 c = unfold stepLine in search asks depth 8
 
 pub step-line-spec : {M : Type 1} → statement M
 step-line-spec =

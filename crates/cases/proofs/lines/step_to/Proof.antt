@@ -1,3 +1,4 @@
+use Rattle.cases.proofs.Asks.{step-read}
 use borrow.Author.Needs.{needs}
 use Rattle.cases.proofs.lines.step_to.Statement.{statement}
 use Rattle.cases.proofs.lines.step_to.Tie as tie
@@ -29,7 +30,7 @@ field8-requires-2 c κs = search needs
 
 -- src/lines.rt:209:1
 returns : tie.Need-returns
-returns c = ?
+returns c = search step-read
 
 pub step-to-spec : {M : Type 1} → statement M
 step-to-spec =

@@ -1,3 +1,4 @@
+use Rattle.cases.proofs.Asks.{texts}
 use borrow.Author.Needs.{needs}
 use Rattle.cases.proofs.lines.text_in.Statement.{statement}
 use Rattle.cases.proofs.lines.text_in.Tie as tie
@@ -25,7 +26,7 @@ enum-told c = search needs
 
 -- src/lines.rt:145:9
 returns : tie.Need-returns
-returns c = ?
+returns c = search texts
 
 -- src/lines.rt:147:46
 part-requires-2 : tie.Need-part-requires-2
@@ -45,7 +46,7 @@ enum-told-2 c = search needs
 
 -- src/lines.rt:148:9
 returns-2 : tie.Need-returns-2
-returns-2 c = ?
+returns-2 c = search texts
 
 -- src/lines.rt:150:44
 part-requires-3 : tie.Need-part-requires-3
@@ -65,11 +66,11 @@ enum-told-3 c = search needs
 
 -- src/lines.rt:151:9
 returns-3 : tie.Need-returns-3
-returns-3 c = ?
+returns-3 c = search texts
 
 -- src/lines.rt:141:1
 returns-4 : tie.Need-returns-4
-returns-4 c = ?
+returns-4 c = search texts
 
 pub text-in-spec : {M : Type 1} → statement M
 text-in-spec =

@@ -1,3 +1,4 @@
+use Rattle.cases.proofs.Asks.{text-asked, text-nobody}
 use borrow.Author.Needs.{needs}
 use Rattle.cases.proofs.lines.text_line.Statement.{statement}
 use Rattle.cases.proofs.lines.text_line.Tie as tie
@@ -34,11 +35,11 @@ enum-told c = search needs
 
 -- src/lines.rt:176:1
 returns : tie.Need-returns
-returns c = ?
+returns c = search text-asked
 
 -- src/lines.rt:176:1
 returns-2 : tie.Need-returns-2
-returns-2 c = ?
+returns-2 c = search text-nobody
 
 pub text-line-spec : {M : Type 1} → statement M
 text-line-spec =

@@ -1,3 +1,6 @@
+use Rattle.cases.proofs.Asks.{asks}
+use Rattle.cases.specs.Lines.{moded}
+use mathlib.Core.Path.{refl}
 use borrow.Author.Needs.{needs}
 use Rattle.cases.proofs.lines.text_moded.Statement.{statement}
 use Rattle.cases.proofs.lines.text_moded.Tie as tie
@@ -25,7 +28,7 @@ text-in-requires c κs = search needs
 
 -- src/lines.rt:168:9
 returns : tie.Need-returns
-returns c = ?
+returns c = unfold moded in search asks depth 8
 
 -- src/lines.rt:170:19
 slice-aggregate-same-2 : tie.Need-slice-aggregate-same-2
@@ -41,11 +44,11 @@ text-in-requires-2 c κs = search needs
 
 -- src/lines.rt:171:9
 returns-2 : tie.Need-returns-2
-returns-2 c = ?
+returns-2 c = unfold moded in search asks depth 8
 
 -- src/lines.rt:163:1
 returns-3 : tie.Need-returns-3
-returns-3 c = ?
+returns-3 c = unfold moded in search asks depth 8
 
 pub text-moded-spec : {M : Type 1} → statement M
 text-moded-spec =

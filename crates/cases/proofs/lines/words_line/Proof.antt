@@ -1,3 +1,4 @@
+use Rattle.cases.proofs.Asks.{runs}
 use borrow.Author.Needs.{needs}
 use Rattle.cases.proofs.lines.words_line.Statement.{statement}
 use Rattle.cases.proofs.lines.words_line.Tie as tie
@@ -25,7 +26,7 @@ enum-told c = search needs
 
 -- src/lines.rt:190:9
 returns : tie.Need-returns
-returns c = ?
+returns c = search runs
 
 -- src/lines.rt:192:46
 part-requires-2 : tie.Need-part-requires-2
@@ -45,11 +46,11 @@ enum-told-2 c = search needs
 
 -- src/lines.rt:193:9
 returns-2 : tie.Need-returns-2
-returns-2 c = ?
+returns-2 c = search runs
 
 -- src/lines.rt:186:1
 returns-3 : tie.Need-returns-3
-returns-3 c = ?
+returns-3 c = search runs
 
 pub words-line-spec : {M : Type 1} → statement M
 words-line-spec =
