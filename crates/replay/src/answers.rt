@@ -1,9 +1,10 @@
 // The answer to one line.
 use crate::out;
+use crate::out::Buffer;
 use cases::Line;
 use records::Side;
 use records::Verdict;
-use words::Next;
+use records::cells::cell8;
 use words::WordState;
 use words::WordStep;
 
@@ -15,7 +16,7 @@ fn side(s: Side) -> u8 {
     }
 }
 
-fn refusal(to: &mut [u8], at: usize, number: u8, s: Side, index: usize) -> usize {
+fn refusal(to: &mut Buffer, at: usize, number: u8, s: Side, index: usize) -> usize {
     let mut end = out::text(to, at, b"R ");
     end = out::decimal(to, end, number as u64);
     end = out::put(to, end, b' ');
@@ -24,35 +25,31 @@ fn refusal(to: &mut [u8], at: usize, number: u8, s: Side, index: usize) -> usize
     out::put(to, end, side(s))
 }
 
-// The first cells, one blank between.
-fn cells(to: &mut [u8], at: usize, answers: &[u8]) -> usize {
+// The first n cells, one blank between.
+fn cells(to: &mut Buffer, at: usize, answers: &[u8; 65535], n: usize) -> usize {
     let mut end = at;
     let mut i: usize = 0;
-    while i < answers.len() {
+    while i < n {
         if 0 < i {
             end = out::put(to, end, b' ');
         }
-        end = out::decimal(to, end, answers[i] as u64);
+        end = out::decimal(to, end, cell8(answers, i) as u64);
         i += 1;
     }
     end
 }
 
-fn least(a: usize, b: usize) -> usize {
-    if a < b { a } else { b }
-}
-
-fn word_run(to: &mut [u8], at: usize, line: &[u8], size: usize, records: usize) -> usize {
+fn word_run(to: &mut Buffer, at: usize, line: &[u8], size: u32, records: usize) -> usize {
     let section = cases::part(line, b';', 2);
     let mut classes = [0u8; 4097];
     let mut pictographs = [0u8; 4097];
     let mut answers = [0u8; 65535];
     let n = cases::column8(section, 0, records, &mut classes);
     let m = cases::column8(section, 1, records, &mut pictographs);
-    let k = least(size, 65535);
+    let k = io::count(size as isize, &answers);
     let verdict = words::run(&classes[..n], &pictographs[..m], &mut answers[..k]);
     match verdict {
-        Verdict::Accepted => cells(to, at, &answers[..n]),
+        Verdict::Accepted => cells(to, at, &answers, n),
         Verdict::Refused {
             number,
             side: s,
@@ -66,7 +63,7 @@ fn flag(b: bool) -> u8 {
 }
 
 // "first,prev,prevent,count"
-fn state(to: &mut [u8], at: usize, s: WordState) -> usize {
+fn state(to: &mut Buffer, at: usize, s: WordState) -> usize {
     let mut end = out::put(to, at, flag(s.first));
     end = out::put(to, end, b',');
     end = out::decimal(to, end, s.previous as u64);
@@ -76,7 +73,7 @@ fn state(to: &mut [u8], at: usize, s: WordState) -> usize {
     out::decimal(to, end, s.count as u64)
 }
 
-fn word_step(to: &mut [u8], at: usize, step: WordStep) -> usize {
+fn word_step(to: &mut Buffer, at: usize, step: WordStep) -> usize {
     let verdict = step.verdict;
     let after = step.state;
     let mut end = at;
@@ -96,14 +93,14 @@ fn word_step(to: &mut [u8], at: usize, step: WordStep) -> usize {
     state(to, end, after)
 }
 
-pub fn not_of_layout(to: &mut [u8], at: usize, number: u64) -> usize {
+pub fn not_of_layout(to: &mut Buffer, at: usize, number: u64) -> usize {
     let mut end = out::text(to, at, b"? ");
     end = out::decimal(to, end, number);
     out::put(to, end, b'\n')
 }
 
 // The answer to a line with its number.
-pub fn answer(to: &mut [u8], at: usize, line: &[u8], number: u64) -> usize {
+pub fn answer(to: &mut Buffer, at: usize, line: &[u8], number: u64) -> usize {
     match cases::read(line) {
         Line::Skipped => at,
         Line::NotOfLayout => not_of_layout(to, at, number),
@@ -119,7 +116,7 @@ pub fn answer(to: &mut [u8], at: usize, line: &[u8], number: u64) -> usize {
             cells: size,
             records,
         } => {
-            let end = word_run(to, at, line, size as usize, records as usize);
+            let end = word_run(to, at, line, size, records as usize);
             out::put(to, end, b'\n')
         }
         Line::Step {

@@ -3,6 +3,10 @@ mod answers;
 mod out;
 
 use libc::STDIN_FILENO;
+use out::Buffer;
+
+// A line that is longer is not of the layout.
+type Stored = [u8; 1048576];
 
 // What is kept between two bytes: how many bytes of the line were stored, whether it has more than can be, its number, and how many
 // bytes of answers wait.
@@ -13,8 +17,7 @@ struct Place {
     at: usize,
 }
 
-// A line that does not fit is not of the layout.
-fn end_line(line: &[u8], to: &mut [u8], p: Place) -> Place {
+fn end_line(line: &[u8], to: &mut Buffer, p: Place) -> Place {
     let number = std::num::wrapping_add_u64(p.number, 1);
     let length = p.length;
     let mut at = p.at;
@@ -31,9 +34,9 @@ fn end_line(line: &[u8], to: &mut [u8], p: Place) -> Place {
     }
 }
 
-fn add(line: &mut [u8], mut p: Place, byte: u8) -> Place {
+fn add(line: &mut Stored, mut p: Place, byte: u8) -> Place {
     let length = p.length;
-    if length < line.len() {
+    if length < 1048576 {
         line[length] = byte;
         p.length = length + 1;
     } else {
@@ -42,7 +45,7 @@ fn add(line: &mut [u8], mut p: Place, byte: u8) -> Place {
     p
 }
 
-fn take(chunk: &[u8], line: &mut [u8], to: &mut [u8], start: Place) -> Place {
+fn take(chunk: &[u8], line: &mut Stored, to: &mut Buffer, start: Place) -> Place {
     let mut p = start;
     let mut i: usize = 0;
     while i < chunk.len() {
@@ -61,7 +64,7 @@ struct Turn {
     open: bool,
 }
 
-fn read_some(line: &mut [u8], to: &mut [u8], p: Place) -> Turn {
+fn read_some(line: &mut Stored, to: &mut Buffer, p: Place) -> Turn {
     let mut chunk = io::large_buffer();
     let got = libc::read(STDIN_FILENO, &mut chunk);
     let n = io::count(got, &chunk);
@@ -78,7 +81,7 @@ fn read_some(line: &mut [u8], to: &mut [u8], p: Place) -> Turn {
 }
 
 // Nothing says that the input ends, so the turns count down from a number that no run uses up.
-fn read_all(line: &mut [u8], to: &mut [u8]) -> Place {
+fn read_all(line: &mut Stored, to: &mut Buffer) -> Place {
     let mut turn = Turn {
         place: Place {
             length: 0,
@@ -100,12 +103,18 @@ fn read_all(line: &mut [u8], to: &mut [u8]) -> Place {
     turn.place
 }
 
+// The last line may end with the input.
+fn finish(line: &Stored, to: &mut Buffer, p: Place) -> usize {
+    if 0 < p.length {
+        return end_line(line, to, p).at;
+    }
+    p.at
+}
+
 fn main() {
     let mut line = [0u8; 1048576];
     let mut to = [0u8; 65536];
-    let mut p = read_all(&mut line, &mut to);
-    if 0 < p.length {
-        p = end_line(&line, &mut to, p);
-    }
-    out::flush(&to, p.at);
+    let p = read_all(&mut line, &mut to);
+    let at = finish(&line, &mut to, p);
+    out::flush(&to, at);
 }

@@ -1,27 +1,30 @@
 // The answers on their way out: `at` bytes of a buffer, which is written when it is full.
 use libc::STDOUT_FILENO;
 
+pub type Buffer = [u8; 65536];
+
 // One call for 64 KiB: a call for each byte would be slow.
-pub fn put(out: &mut [u8], at: usize, byte: u8) -> usize {
-    if at < out.len() {
+pub fn put(out: &mut Buffer, at: usize, byte: u8) -> usize {
+    if at < 65536 {
         out[at] = byte;
         return at + 1;
     }
     io::write_all(STDOUT_FILENO, out);
-    if 0 < out.len() {
-        out[0] = byte;
-        return 1;
-    }
-    0
+    out[0] = byte;
+    1
 }
 
-pub fn flush(out: &[u8], at: usize) {
-    if at <= out.len() {
-        io::write_all(STDOUT_FILENO, &out[..at]);
+fn write_first(bytes: &[u8], n: usize) {
+    if n <= bytes.len() {
+        io::write_all(STDOUT_FILENO, &bytes[..n]);
     }
 }
 
-pub fn text(out: &mut [u8], at: usize, bytes: &[u8]) -> usize {
+pub fn flush(out: &Buffer, at: usize) {
+    write_first(out, at);
+}
+
+pub fn text(out: &mut Buffer, at: usize, bytes: &[u8]) -> usize {
     let mut end = at;
     let mut i: usize = 0;
     while i < bytes.len() {
@@ -31,7 +34,7 @@ pub fn text(out: &mut [u8], at: usize, bytes: &[u8]) -> usize {
     end
 }
 
-pub fn decimal(out: &mut [u8], at: usize, n: u64) -> usize {
+pub fn decimal(out: &mut Buffer, at: usize, n: u64) -> usize {
     let mut digits = [0u8; 20];
     let k = io::decimal(n, &mut digits);
     text(out, at, &digits[..k])
@@ -43,7 +46,7 @@ fn digit(d: u32) -> u8 {
 }
 
 // Capital digits, "four or as many more as needed".
-pub fn hex(out: &mut [u8], at: usize, x: u32) -> usize {
+pub fn hex(out: &mut Buffer, at: usize, x: u32) -> usize {
     let mut end = at;
     let mut unit: u32 = 0x10000000;
     while 0 < unit {
