@@ -14,6 +14,8 @@ import re
 import subprocess
 import sys
 
+import lists
+
 HERE = pathlib.Path(__file__).resolve().parent
 FILES = ("simple.rs", "myanmar.rs", "complex.rs", "analyze.rs")
 
@@ -65,7 +67,7 @@ def main():
     folder, *files = sys.argv[1:]
     coverage = Coverage(folder)
     taken = set()
-    for file in files or sorted((HERE / "lists").glob("*.cases")):
+    for file in files or (lists.REPLAYED[0], lists.WAITING[0]):
         for blocks in coverage.blocks(pathlib.Path(file).read_text(encoding="latin-1").split("\n")[:-1]):
             taken |= blocks
     report(coverage, taken)

@@ -11,10 +11,10 @@ import resource
 import signal
 
 import cases
+import lists
 import reading
 
 HERE = pathlib.Path(__file__).resolve().parent
-KINDS = "RWwSMCsmc"
 SECONDS, BYTES = 60, 1 << 30  # A mutant that runs on for ever is noticed too.
 
 
@@ -64,11 +64,8 @@ def mutants():
         yield changed.lineno, before, program(mutant)
 
 
-def lists():
-    for kind in KINDS:
-        lines = (HERE / f"lists/{kind}.cases").read_text().split("\n")[:-1]
-        answers = (HERE / f"lists/{kind}.answers").read_text().split("\n")[:-1]
-        yield [(line, answer) for line, answer in zip(lines, answers) if answer[:1] != "?"]
+def of_layout():
+    return [(line, answer) for line, answer in lists.pairs() if answer[:1] != "?"]
 
 
 def take_place(code):
@@ -84,12 +81,12 @@ def out_of_time(*_):
     raise TimeoutError
 
 
-def is_noticed(code, pairs_of_lists):
+def is_noticed(code, pairs):
     """The mutant's functions take the reading's place; anything that goes wrong is noticed."""
     signal.alarm(SECONDS)
     try:
         take_place(code)
-        return any(cases.answer(line) != answer for pairs in pairs_of_lists for line, answer in pairs)
+        return any(cases.answer(line) != answer for line, answer in pairs)
     except Exception:
         return True
     finally:
@@ -99,12 +96,12 @@ def is_noticed(code, pairs_of_lists):
 def main():
     signal.signal(signal.SIGALRM, out_of_time)
     resource.setrlimit(resource.RLIMIT_AS, (BYTES, BYTES))
-    pairs_of_lists = list(lists())
-    assert not is_noticed(program(unchanged()), pairs_of_lists), "the unchanged reading has to agree"
+    pairs = of_layout()
+    assert not is_noticed(program(unchanged()), pairs), "the unchanged reading has to agree"
     made = missed = 0
     for line, before, code in mutants():
         made += 1
-        if not is_noticed(code, pairs_of_lists):
+        if not is_noticed(code, pairs):
             missed += 1
             print(f"reading.py:{line}: {before} is not noticed", flush=True)
     print(f"{made} mutants, {missed} not noticed")

@@ -4,14 +4,6 @@ use crate::verdicts::write;
 use records::Parser;
 use records::Verdict;
 
-// The length of a column: `other` for the one that is counted, `usual` for the rest, and never more than there is.
-fn length(column: u8, k: u8, other: usize, usual: usize) -> usize {
-    if column == k {
-        return other;
-    }
-    usual
-}
-
 fn cut8(s: &[u8], n: usize) -> &[u8] {
     if n <= s.len() { &s[..n] } else { s }
 }
@@ -24,27 +16,49 @@ fn cut32(s: &[u32], n: usize) -> &[u32] {
     if n <= s.len() { &s[..n] } else { s }
 }
 
+// Column k is `other` cells long, the rest `usual`.
+fn column8(s: &[u8], column: u8, k: u8, other: usize, usual: usize) -> &[u8] {
+    if column == k {
+        return cut8(s, other);
+    }
+    cut8(s, usual)
+}
+
+fn column16(s: &[u16], column: u8, k: u8, other: usize, usual: usize) -> &[u16] {
+    if column == k {
+        return cut16(s, other);
+    }
+    cut16(s, usual)
+}
+
+fn column32(s: &[u32], column: u8, k: u8, other: usize, usual: usize) -> &[u32] {
+    if column == k {
+        return cut32(s, other);
+    }
+    cut32(s, usual)
+}
+
 fn check(b: &[u8], h: &[u16], w: &[u32], k: u8, other: usize, usual: usize) -> Verdict {
     records::check(
         Parser::Khmer,
-        cut32(w, length(0, k, other, usual)),
-        cut8(b, length(1, k, other, usual)),
-        cut8(b, length(2, k, other, usual)),
-        cut8(b, length(3, k, other, usual)),
-        cut8(b, length(4, k, other, usual)),
-        cut8(b, length(5, k, other, usual)),
-        cut8(b, length(6, k, other, usual)),
-        cut8(b, length(7, k, other, usual)),
-        cut8(b, length(8, k, other, usual)),
-        cut8(b, length(9, k, other, usual)),
-        cut8(b, length(10, k, other, usual)),
-        cut8(b, length(11, k, other, usual)),
-        cut16(h, length(12, k, other, usual)),
-        cut8(b, length(13, k, other, usual)),
-        cut32(w, length(14, k, other, usual)),
-        cut8(b, length(15, k, other, usual)),
-        cut8(b, length(16, k, other, usual)),
-        cut8(b, length(17, k, other, usual)),
+        column32(w, 0, k, other, usual),
+        column8(b, 1, k, other, usual),
+        column8(b, 2, k, other, usual),
+        column8(b, 3, k, other, usual),
+        column8(b, 4, k, other, usual),
+        column8(b, 5, k, other, usual),
+        column8(b, 6, k, other, usual),
+        column8(b, 7, k, other, usual),
+        column8(b, 8, k, other, usual),
+        column8(b, 9, k, other, usual),
+        column8(b, 10, k, other, usual),
+        column8(b, 11, k, other, usual),
+        column16(h, 12, k, other, usual),
+        column8(b, 13, k, other, usual),
+        column32(w, 14, k, other, usual),
+        column8(b, 15, k, other, usual),
+        column8(b, 16, k, other, usual),
+        column8(b, 17, k, other, usual),
     )
 }
 

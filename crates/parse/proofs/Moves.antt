@@ -27,17 +27,17 @@ module _ {A : Type 0} (f : Parse → A) (same : (n : ℕ) (cs : List Pushed) (s 
   pub noted-same : f (notedOf t s) ≡ f s
   noted-same = if-same f (ltb 0 (s .len)) _ _ (f s) (if-same f (ltb (s .len) 33) _ s (f s) (same _ _ s) refl) (put-same Other)
 
-pub place-lt : (n i : ℕ) → ltb (placeAfter n i) n ≡ true → (placeAfter n i ≡ i + 1) × (i + 1 < n)
+place-lt : (n i : ℕ) → ltb (placeAfter n i) n ≡ true → (placeAfter n i ≡ i + 1) × (i + 1 < n)
 place-lt n i h = go (ltb i n) refl h
   where
     go : (b : Bool) → ltb i n ≡ b → ltb (cond b (i + 1) i) n ≡ true → (cond b (i + 1) i ≡ i + 1) × (i + 1 < n)
     go true k e = (refl, ltb-true _ _ e)
     go false k e = absurd (let l = ltb-true i n e in omega (arith, ltb-false i n k))
 
-pub place-le : (n i : ℕ) → i ≤ placeAfter n i
+place-le : (n i : ℕ) → i ≤ placeAfter n i
 place-le n i = if-intro (λ k. i ≤ k) (ltb i n) _ _ (λ h. omega arith) (λ h. omega arith)
 
-pub filled-le : (m : Mode) (n i : ℕ) → i ≤ filledAt m n i
+filled-le : (m : Mode) (n i : ℕ) → i ≤ filledAt m n i
 filled-le Crate n i = le-refl _
 filled-le Whole n i = place-le n i
 

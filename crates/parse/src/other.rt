@@ -39,7 +39,7 @@ impl Parse {
         self.accept_any_as(text, class)
     }
 
-    fn parse_newline(self, text: &[u64]) -> Parse
+    pub fn parse_newline(self, text: &[u64]) -> Parse
         ensures { λ r. ⌜ r ≡ run newline (now (text .entry)) self ⌝ }
     {
         self.set_space(text, Space::Newline)

@@ -5,6 +5,7 @@ mod judge;
 mod sets;
 
 use judge::is_khmer;
+pub use judge::is_outside;
 pub use judge::is_sign;
 use judge::judge_lengths;
 use sets::judge_parts;

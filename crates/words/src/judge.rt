@@ -4,18 +4,11 @@ use crate::WordState;
 use classes::word_break;
 use records::Side;
 use records::Verdict;
+use records::is_outside;
 ghost use mathlib.Core.Path.{_≡_};
-ghost use lib.Dec.{leb};
 ghost use Rattle.classes.specs.WordBreak as WordBreak;
 ghost use Rattle.records.specs.Refusals.{outside};
 ghost use Rattle.words.specs.Step.{nextCodes, badRecord, badState, stepVerdict};
-
-// A code at or above the length of its list.
-pub fn is_outside(code: u8, len: u8) -> bool
-    ensures { λ r. ⌜ r ≡ leb len code ⌝ }
-{
-    len <= code
-}
 
 // A class or a mark outside its list: a mark is 0 or 1.
 pub fn is_bad_record(class: u8, pictograph: u8, next: Next) -> bool

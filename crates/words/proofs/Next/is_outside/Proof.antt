@@ -4,7 +4,6 @@ use Rattle.words.proofs.Next.is_outside.Statement.{statement}
 use Rattle.words.proofs.Next.is_outside.Tie as tie
 use Rattle.words.proofs.Next.is_outside.Reads as reads
 use Rattle.words.proofs.Next.is_outside.Lts as lts
-use Rattle.words.proofs.judge.is_outside.Reads as is-outside-reads
 
 -- src/judge.rt:38:25
 enum-known-self : tie.Need-enum-known-self

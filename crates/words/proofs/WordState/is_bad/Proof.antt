@@ -4,7 +4,6 @@ use Rattle.words.proofs.WordState.is_bad.Statement.{statement}
 use Rattle.words.proofs.WordState.is_bad.Tie as tie
 use Rattle.words.proofs.WordState.is_bad.Reads as reads
 use Rattle.words.proofs.WordState.is_bad.Lts as lts
-use Rattle.words.proofs.judge.is_outside.Reads as is-outside-reads
 
 -- src/judge.rt:48:12
 is-outside-requires : tie.Need-is-outside-requires

@@ -5,7 +5,6 @@ use Rattle.words.proofs.judge.is_bad_record.Tie as tie
 use Rattle.words.proofs.judge.is_bad_record.Reads as reads
 use Rattle.words.proofs.judge.is_bad_record.Lts as lts
 use Rattle.words.proofs.Next.is_outside.Reads as Next-is-outside-reads
-use Rattle.words.proofs.judge.is_outside.Reads as judge-is-outside-reads
 
 -- src/judge.rt:24:8
 is-outside-requires : tie.Need-is-outside-requires

@@ -1,0 +1,5 @@
+pub mod Given
+pub mod Progress
+pub mod Marked
+pub mod Spent
+pub mod Ignored

@@ -1,0 +1,91 @@
+-- "Complex: the results of the first CMAbv and CMBlw runs are ignored. With refusal 6 this pushes nothing more." What the Rust does at
+-- that place, to be compared with the rule `markedSyllable`, which ends there as everywhere else.
+use Prim.Native.Nat.{ℕ, _<_}
+use mathlib.Core.Path.{_≡_}
+use mathlib.Core.Bool.{Bool, true, false, cond}
+use mathlib.Core.List.{List, [], _∷_}
+use lib.ListN.{length}
+use Rattle.classes.specs.Scalar.{CGJ}
+use Rattle.classes.specs.declared.Shape.the-variants.{Base, Reph, Vs, Other}
+use Rattle.classes.specs.UseClass.{B, CS, GB, IND, N, O, R, Rsv, S, VS, WJ, CMAbv, CMBlw, SUB, H, FM, FAbv, FBlw, FPst, MAbv, MBlw, MPre, MPst, VAbv, VBlw, VPre, VPst, VMAbv, VMBlw, VMPre, VMPst}
+use Rattle.token.specs.Token.{scalarOf, kindOf}
+use Rattle.parse.specs.declared.Parse.{Parse}
+use Rattle.parse.specs.declared.Flow.the-variants.{GoOn}
+use Rattle.parse.specs.State.{tokenAt, clusterOf, placeOf, going, withFlow}
+use Rattle.parse.specs.Rule.{Rule, Test, mark, choose, _▸_, run, holds, take, acceptAs, many, is, isEmoji, oneOf, member, setBroken}
+use Rattle.parse.specs.Shared.{emojis, otherArm}
+use Rattle.complex.specs.Grammar.{byKind, baseVs, symbolMarks, consonantMarks, isSymbolMark, number, symbol, syllable}
+
+-- the classes that the tail asks for behind the consonant marks
+abbrev pub syllableClasses : List ℕ
+syllableClasses =
+    SUB ∷ H ∷ FM ∷ FAbv ∷ FBlw ∷ FPst ∷ MAbv ∷ MBlw ∷ MPre ∷ MPst ∷ VAbv ∷ VBlw ∷ VPre ∷ VPst ∷ VMAbv ∷ VMBlw ∷ VMPre ∷ VMPst ∷ []
+
+-- refusal 6 of the token stream: no U+034F has one of them, nor CMBlw
+abbrev pub Unbarred : List ℕ → Type 0
+Unbarred text = (i : ℕ) → i < length text → scalarOf (tokenAt text i) ≡ CGJ → member (CMBlw ∷ syllableClasses) (kindOf (tokenAt text i)) ≡ false
+
+-- the Rust's statement `self.accept_zero_or_many(kind);`: at a cluster of 32 and at the end of the text it goes on with the same token
+abbrev pub ignoring : Rule → List ℕ → Parse → Parse
+ignoring r text s = let q = withFlow GoOn (run r text s) in cond (going s) q s
+
+-- `parse_standard_tail`, where it is no symbol, as the Rust has it
+abbrev pub markedSyllableAsRust : Bool → List ℕ → Parse → Parse
+markedSyllableAsRust khmer text s = run (syllable khmer) text (ignoring (many CMBlw) text (ignoring (many CMAbv) text s))
+
+-- What it comes to with refusal 6: where one of the runs has ended, nothing more. The parse goes on still, which a push there, at a
+-- cluster of 32 or at the end of the text, would have ended.
+abbrev pub unlessEnded : Bool → List ℕ → Parse → Parse
+unlessEnded khmer text q = let r = run (syllable khmer) text q in cond (going q) r (withFlow GoOn q)
+
+abbrev pub noMore : Bool → List ℕ → Parse → Parse
+noMore khmer text s = let q = unlessEnded khmer text (run consonantMarks text s) in cond (going s) q s
+
+-- The call around it. `parse` as a tree of tests that has that place at its ends and nowhere else: the rule of the tree is the rule
+-- `cluster`, and the tree with the Rust's own text in that place is the Rust's call.
+pub data Tree : Type 0 where
+  plain : Rule → Tree
+  place : Tree
+  after : Rule → Tree → Tree
+  fork : Test → Tree → Tree → Tree
+
+abbrev pub ruleOf : Rule → Tree → Rule
+ruleOf m (plain r) = r
+ruleOf m place = m
+ruleOf m (after r d) = r ▸ ruleOf m d
+ruleOf m (fork p d e) = choose p (ruleOf m d) (ruleOf m e)
+
+abbrev pub runOf : (List ℕ → Parse → Parse) → Tree → List ℕ → Parse → Parse
+runOf f (plain r) text s = run r text s
+runOf f place text s = f text s
+runOf f (after r d) text s = runOf f d text (run r text s)
+runOf f (fork p d e) text s =
+    let a = runOf f d text s in
+    let b = runOf f e text s in
+    cond (holds text p s) a b
+
+abbrev pub standardTree : Bool → Tree
+standardTree potential =
+    fork (oneOf (B ∷ GB ∷ []))
+    (after (take Base) (after (acceptAs VS Vs) (fork (isSymbolMark potential) (plain symbolMarks) place)))
+    (plain (mark setBroken ▸ byKind))
+
+abbrev pub clusterTree : Tree
+clusterTree =
+    fork isEmoji (plain emojis)
+    (fork (is O) (plain otherArm)
+    (fork (oneOf (IND ∷ Rsv ∷ WJ ∷ [])) (plain baseVs)
+    (fork (is R) (after (take Reph) (standardTree false))
+    (fork (is CS) (after (take Other) (standardTree false))
+    (fork (is B) (standardTree false)
+    (fork (is GB) (standardTree true)
+    (fork (is N) (plain number)
+    (fork (is S) (plain symbol)
+    (standardTree false)))))))))
+
+abbrev pub clusterAsRust : Bool → List ℕ → Parse → Parse
+clusterAsRust khmer = runOf (markedSyllableAsRust khmer) clusterTree
+
+-- two parses hand back the same: the cluster, and the next place
+abbrev pub Same : List ℕ → Parse → Parse → Type 0
+Same text s q = (clusterOf s ≡ clusterOf q) × (placeOf text s ≡ placeOf text q)
