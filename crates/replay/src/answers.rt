@@ -1,29 +1,15 @@
 // The answer to one line.
 use crate::out;
 use crate::out::Buffer;
+use crate::refusals::refusal;
+use crate::texts::text;
 use cases::Line;
-use records::Side;
+use parse::Place;
 use records::Verdict;
 use records::cells::cell8;
+use segment::Segmenter;
 use words::WordState;
 use words::WordStep;
-
-fn side(s: Side) -> u8 {
-    match s {
-        Side::Record => b'r',
-        Side::Part => b'p',
-        Side::Neither => b'-',
-    }
-}
-
-fn refusal(to: &mut Buffer, at: usize, number: u8, s: Side, index: usize) -> usize {
-    let mut end = out::text(to, at, b"R ");
-    end = out::decimal(to, end, number as u64);
-    end = out::put(to, end, b' ');
-    end = out::decimal(to, end, index as u64);
-    end = out::put(to, end, b' ');
-    out::put(to, end, side(s))
-}
 
 // The first n cells, one blank between.
 fn cells(to: &mut Buffer, at: usize, answers: &[u8; 65535], n: usize) -> usize {
@@ -105,13 +91,25 @@ pub fn answer(to: &mut Buffer, at: usize, line: &[u8], number: u64) -> usize {
         Line::Skipped => at,
         Line::NotOfLayout => not_of_layout(to, at, number),
         Line::Text {
-            parser: _,
-            mode: _,
-            full: _,
-            number: _,
-            records: _,
-            parts: _,
-        } => at,
+            parser,
+            mode,
+            full,
+            number: place,
+            records,
+            parts,
+        } => {
+            if full {
+                return at;
+            }
+            let place = Place { at: place as usize };
+            let s = Segmenter {
+                parser,
+                mode,
+                place,
+            };
+            let end = text(to, at, line, s, records as usize, parts as usize);
+            out::put(to, end, b'\n')
+        }
         Line::Words {
             cells: size,
             records,

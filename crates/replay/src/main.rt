@@ -1,6 +1,9 @@
 // Cases from standard input, one a line; one line of answers for each.
 mod answers;
+mod clusters;
 mod out;
+mod refusals;
+mod texts;
 
 use libc::STDIN_FILENO;
 use out::Buffer;
