@@ -56,8 +56,10 @@ fn mark(b: bool, letter: u8) -> u8 {
 }
 
 fn signs(to: &mut Buffer, at: usize, info: Info) -> usize {
-    let mut end = out::put(to, at, emoji(info.emoji));
-    end = space(to, end, info.space);
+    let kind = info.emoji;
+    let of = info.space;
+    let mut end = out::put(to, at, emoji(kind));
+    end = space(to, end, of);
     end = out::put(to, end, mark(info.broken, b'B'));
     out::put(to, end, mark(info.normalise, b'Z'))
 }
