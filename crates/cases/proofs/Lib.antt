@@ -1,0 +1,5 @@
+pub mod Asks
+pub mod Choices
+pub mod Digits
+pub mod Fields
+pub mod Splits

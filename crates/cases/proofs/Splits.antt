@@ -1,0 +1,110 @@
+-- A walk over a text by positions is the definitions' walk over what is left of it. Assumes nothing.
+use Prim.Native.Nat.{ℕ, zero, suc, _+_, _-_, _<_, _≤_}
+use mathlib.Core.Path.{_≡_, refl, sym, _∙_, ap}
+use mathlib.Core.Bool.{Bool, true, false, cond}
+use mathlib.Core.List.{List, [], _∷_}
+use native.Mathlib.Numerals.{add-one}
+use native.Mathlib.Omega.{arith}
+use lib.Dec.{eqb}
+use lib.ListN.{length, getD, take, drop, drop-of-length-le, length-drop}
+use lib.Seq.{drop-cons, drop-drop}
+use borrow.Author.Tests.{eq-eqb, ne-eqb}
+use Rattle.cases.specs.Parts.{before, upTo, after, rest, part, count, allBelow, agree, equal}
+use Rattle.cases.proofs.Choices.{all-more, all-fails}
+
+-- at byte i, of the loops that look for a separator and that count them: k is what they answer
+module _ (s : ℕ) (xs : List ℕ) (i k : ℕ) where
+  module _ (e : i + before s (drop i xs) ≡ k) where
+    pub end-here : i < length xs → getD xs i 0 ≡ s → i ≡ k
+    unfolding before
+    end-here h m = let z : before s (drop i xs) ≡ 0 = rw (drop-cons xs i 0 h, eq-eqb _ _ m) in omega arith
+
+    pub end-pass : i < length xs → (getD xs i 0 ≡ s → ⊥) → i + 1 + before s (drop (i + 1) xs) ≡ k
+    unfolding before
+    end-pass h n =
+        let z : before s (drop i xs) ≡ suc (before s (drop (i + 1) xs)) = rw (add-one i, drop-cons xs i 0 h, ne-eqb _ _ n) in
+        omega arith
+
+    pub end-over : length xs ≤ i → i ≡ k
+    unfolding before
+    end-over h = let z : before s (drop i xs) ≡ 0 = rw (drop-of-length-le xs h) in omega arith
+
+  module _ (n : ℕ) (e : n + count s (drop i xs) ≡ k) where
+    pub count-here : (n′ : ℕ) → n′ ≡ n + 1 → i < length xs → getD xs i 0 ≡ s → n′ + count s (drop (i + 1) xs) ≡ k
+    unfolding count
+    count-here n′ f h m =
+        let z : count s (drop i xs) ≡ suc (count s (drop (i + 1) xs)) = rw (add-one i, drop-cons xs i 0 h, eq-eqb _ _ m) in
+        omega arith
+
+    pub count-pass : (n′ : ℕ) → n′ ≡ n → i < length xs → (getD xs i 0 ≡ s → ⊥) → n′ + count s (drop (i + 1) xs) ≡ k
+    unfolding count
+    count-pass n′ f h m =
+        let z : count s (drop i xs) ≡ count s (drop (i + 1) xs) = rw (add-one i, drop-cons xs i 0 h, ne-eqb _ _ m) in
+        omega arith
+
+    pub count-over : length xs ≤ i → n ≡ k
+    unfolding count
+    count-over h = let z : count s (drop i xs) ≡ 0 = rw (drop-of-length-le xs h) in omega arith
+
+within : (b : Bool) (m n : ℕ) → m ≤ n → cond b 0 (suc m) ≤ suc n
+within true m n h = omega arith
+within false m n h = omega arith
+
+pub before-within : (s : ℕ) (xs : List ℕ) → before s xs ≤ length xs
+unfolding before
+before-within s [] = omega arith
+before-within s (x ∷ xs) = let h : before s xs ≤ length xs = before-within s xs in within (eqb x s) (before s xs) (length xs) h
+
+-- where a part ends, and where the next begins
+module _ (s : ℕ) (xs : List ℕ) (at end : ℕ) (e : end ≡ at + before s (drop at xs)) where
+  pub next-found : drop (end + 1) xs ≡ after s (drop at xs)
+  unfolding after
+  next-found =
+      let f : end + 1 ≡ at + suc (before s (drop at xs)) = omega arith in
+      rw f (sym (drop-drop (suc (before s (drop at xs))) at xs))
+
+  pub next-none : length xs ≤ end → drop end xs ≡ after s (drop at xs)
+  unfolding after
+  next-none h =
+      let k : length xs ≤ at + suc (before s (drop at xs)) = omega arith in
+      drop-of-length-le xs h ∙ sym (drop-drop (suc (before s (drop at xs))) at xs ∙ drop-of-length-le xs k)
+
+  pub part-within : at ≤ length xs → end ≤ length xs
+  part-within h = omega (arith, before-within s (drop at xs), length-drop at xs)
+
+  pub part-here : take (end - at) (drop at xs) ≡ upTo s (drop at xs)
+  unfolding upTo
+  part-here = let f : end - at ≡ before s (drop at xs) = omega arith in rw f
+
+pub part-none : (s : ℕ) (xs : List ℕ) (at : ℕ) → length xs < at → [] ≡ upTo s (drop at xs)
+unfolding upTo before
+part-none s xs at h = let k : length xs ≤ at = omega arith in rw (drop-of-length-le xs k)
+
+-- after i parts
+module _ (s : ℕ) (xs : List ℕ) (i at : ℕ) (e : drop at xs ≡ rest s i xs) where
+  pub rest-more : (next : ℕ) → drop next xs ≡ after s (drop at xs) → drop next xs ≡ rest s (i + 1) xs
+  unfolding rest
+  rest-more next h = rw (add-one i) (h ∙ ap (after s) e)
+
+  pub part-read : (p : List ℕ) → p ≡ upTo s (drop at xs) → p ≡ part s i xs
+  unfolding part
+  part-read p h = h ∙ ap (upTo s) e
+
+-- two texts compared byte by byte
+module _ (xs ys : List ℕ) where
+  pub equal-short : (length xs ≡ length ys → ⊥) → false ≡ equal xs ys
+  unfolding equal
+  equal-short h = rw (ne-eqb _ _ h)
+
+  module _ (h : length xs ≡ length ys) where
+    pub equal-fails : (i : ℕ) → i < length xs → (getD xs i 0 ≡ getD ys i 0 → ⊥) → false ≡ equal xs ys
+    unfolding equal agree
+    equal-fails i l n = rw (eq-eqb _ _ h) (sym (all-fails (agree xs ys) _ i l (ne-eqb _ _ n)))
+
+    pub equal-all : (i : ℕ) → allBelow (agree xs ys) i ≡ true → i ≡ length xs → true ≡ equal xs ys
+    unfolding equal
+    equal-all i a e = rw (eq-eqb _ _ h, ← e) (sym a)
+
+  pub equal-more : (i : ℕ) → allBelow (agree xs ys) i ≡ true → getD xs i 0 ≡ getD ys i 0 → allBelow (agree xs ys) (i + 1) ≡ true
+  unfolding agree
+  equal-more i a e = all-more (agree xs ys) i a (eq-eqb _ _ e)

@@ -1,0 +1,137 @@
+// Items with one blank between, each of fields with one comma between: whether they are of the layout, and their number.
+use crate::numbers::Base;
+use crate::numbers::Number;
+use crate::numbers::read_number;
+use crate::parts::count;
+use crate::parts::next_of;
+use crate::parts::part;
+use crate::parts::part_at;
+ghost use mathlib.Core.Path.{_≡_};
+ghost use Prim.Native.Nat.{_≤_};
+ghost use Rattle.cases.specs.Numbers.{radixOf};
+ghost use Rattle.cases.specs.Items as Items;
+ghost use Rattle.cases.specs.Items.{commasOf, recordField, partField, stateField, isField, isItem, itemCount, itemsOf};
+
+// What an item is.
+pub enum Kind {
+    Record,
+    Part,
+    Word,
+    State,
+}
+
+fn commas(kind: Kind) -> usize
+    ensures { λ r. ⌜ r ≡ commasOf kind ⌝ }
+    ensures { λ r. ⌜ r ≤ 13 ⌝ }
+{
+    match kind {
+        Kind::Record => 13,
+        Kind::Part => 3,
+        Kind::Word => 1,
+        Kind::State => 3,
+    }
+}
+
+fn fits(digits: &[u8], base: Base, most: u32) -> bool
+    ensures { λ r. ⌜ r ≡ Items.fits (radixOf base) most (now (digits .entry)) ⌝ }
+{
+    match read_number(digits, base, most) {
+        Number::Value(_) => true,
+        Number::Nothing => false,
+    }
+}
+
+fn is_record_field(k: usize, digits: &[u8]) -> bool
+    ensures { λ r. ⌜ r ≡ recordField k (now (digits .entry)) ⌝ }
+{
+    if k == 0 {
+        return fits(digits, Base::Hexadecimal, 0xFFFFFFFF);
+    }
+    if k == 12 {
+        return fits(digits, Base::Decimal, 65535);
+    }
+    fits(digits, Base::Decimal, 255)
+}
+
+fn is_part_field(k: usize, digits: &[u8]) -> bool
+    ensures { λ r. ⌜ r ≡ partField k (now (digits .entry)) ⌝ }
+{
+    if k == 0 {
+        return fits(digits, Base::Hexadecimal, 0xFFFFFFFF);
+    }
+    fits(digits, Base::Decimal, 255)
+}
+
+fn is_state_field(k: usize, digits: &[u8]) -> bool
+    ensures { λ r. ⌜ r ≡ stateField k (now (digits .entry)) ⌝ }
+{
+    if k == 0 {
+        return fits(digits, Base::Decimal, 1);
+    }
+    if k == 2 {
+        return fits(digits, Base::Decimal, 1);
+    }
+    fits(digits, Base::Decimal, 255)
+}
+
+fn is_field(kind: Kind, k: usize, digits: &[u8]) -> bool
+    ensures { λ r. ⌜ r ≡ isField kind k (now (digits .entry)) ⌝ }
+{
+    match kind {
+        Kind::Record => is_record_field(k, digits),
+        Kind::Part => is_part_field(k, digits),
+        Kind::Word => fits(digits, Base::Decimal, 255),
+        Kind::State => is_state_field(k, digits),
+    }
+}
+
+pub fn is_item(item: &[u8], kind: Kind) -> bool
+    ensures { λ r. ⌜ r ≡ isItem kind (now (item .entry)) ⌝ }
+{
+    let last = commas(kind);
+    if count(item, b',') != last {
+        return false;
+    }
+    let mut k: usize = 0;
+    while k <= last {
+        if is_field(kind, k, part(item, b',', k)) {
+            k += 1;
+        } else {
+            return false;
+        }
+    }
+    true
+}
+
+fn item_count(blanks: usize) -> u32
+    ensures { λ r. ⌜ r ≡ itemCount blanks ⌝ }
+{
+    if blanks < 4096 {
+        return blanks as u32 + 1;
+    }
+    4097
+}
+
+// The number of items, or nothing where one is not of the layout. "Any number of items": 4,097 are enough to be refused.
+pub fn count_items(section: &[u8], kind: Kind) -> Number
+    ensures { λ r. ⌜ r ≡ itemsOf kind (now (section .entry)) ⌝ }
+{
+    if section.len() == 0 {
+        return Number::Value(0);
+    }
+    let last = count(section, b' ');
+    let mut at: usize = 0;
+    let mut i: usize = 0;
+    while i < last {
+        if is_item(part_at(section, at, b' '), kind) {
+            at = next_of(section, at, b' ');
+            i += 1;
+        } else {
+            return Number::Nothing;
+        }
+    }
+    if is_item(part_at(section, at, b' '), kind) {
+        return Number::Value(item_count(last));
+    }
+    Number::Nothing
+}

@@ -1,0 +1,13 @@
+// Reading of case lines. A line that is not of the layout says so.
+mod columns;
+mod items;
+mod lines;
+mod numbers;
+mod parts;
+
+pub use columns::column8;
+pub use columns::column16;
+pub use columns::column32;
+pub use lines::Line;
+pub use lines::read;
+pub use parts::part;

@@ -1,0 +1,130 @@
+// The answer to one line.
+use crate::out;
+use crate::out::Buffer;
+use crate::refusals::refusal;
+use crate::texts::text;
+use cases::Line;
+use parse::Place;
+use records::Verdict;
+use records::cells::cell8;
+use segment::Segmenter;
+use words::WordState;
+use words::WordStep;
+
+// The first n cells, one blank between.
+fn cells(to: &mut Buffer, at: usize, answers: &[u8; 65535], n: usize) -> usize {
+    let mut end = at;
+    let mut i: usize = 0;
+    while i < n {
+        if 0 < i {
+            end = out::put(to, end, b' ');
+        }
+        end = out::decimal(to, end, cell8(answers, i) as u64);
+        i += 1;
+    }
+    end
+}
+
+fn word_run(to: &mut Buffer, at: usize, line: &[u8], size: u32, records: usize) -> usize {
+    let section = cases::part(line, b';', 2);
+    let mut classes = [0u8; 4097];
+    let mut pictographs = [0u8; 4097];
+    let mut answers = [0u8; 65535];
+    let n = cases::column8(section, 0, records, &mut classes);
+    let m = cases::column8(section, 1, records, &mut pictographs);
+    let k = io::count(size as isize, &answers);
+    let verdict = words::run(&classes[..n], &pictographs[..m], &mut answers[..k]);
+    match verdict {
+        Verdict::Accepted => cells(to, at, &answers, n),
+        Verdict::Refused {
+            number,
+            side: s,
+            index,
+        } => refusal(to, at, number, s, index),
+    }
+}
+
+fn flag(b: bool) -> u8 {
+    if b { b'1' } else { b'0' }
+}
+
+// "first,prev,prevent,count"
+fn state(to: &mut Buffer, at: usize, s: WordState) -> usize {
+    let mut end = out::put(to, at, flag(s.first));
+    end = out::put(to, end, b',');
+    end = out::decimal(to, end, s.previous as u64);
+    end = out::put(to, end, b',');
+    end = out::put(to, end, flag(s.prevent));
+    end = out::put(to, end, b',');
+    out::decimal(to, end, s.count as u64)
+}
+
+fn word_step(to: &mut Buffer, at: usize, step: WordStep) -> usize {
+    let verdict = step.verdict;
+    let after = step.state;
+    let mut end = at;
+    match verdict {
+        Verdict::Accepted => {
+            end = out::decimal(to, end, step.answer as u64);
+        }
+        Verdict::Refused {
+            number,
+            side: s,
+            index,
+        } => {
+            end = refusal(to, end, number, s, index);
+        }
+    }
+    end = out::put(to, end, b';');
+    state(to, end, after)
+}
+
+pub fn not_of_layout(to: &mut Buffer, at: usize, number: u64) -> usize {
+    let mut end = out::text(to, at, b"? ");
+    end = out::decimal(to, end, number);
+    out::put(to, end, b'\n')
+}
+
+// The answer to a line with its number.
+pub fn answer(to: &mut Buffer, at: usize, line: &[u8], number: u64) -> usize {
+    match cases::read(line) {
+        Line::Skipped => at,
+        Line::NotOfLayout => not_of_layout(to, at, number),
+        Line::Text {
+            parser,
+            mode,
+            full,
+            number: place,
+            records,
+            parts,
+        } => {
+            if full {
+                return at;
+            }
+            let place = Place { at: place as usize };
+            let s = Segmenter {
+                parser,
+                mode,
+                place,
+            };
+            let end = text(to, at, line, s, records as usize, parts as usize);
+            out::put(to, end, b'\n')
+        }
+        Line::Words {
+            cells: size,
+            records,
+        } => {
+            let end = word_run(to, at, line, size, records as usize);
+            out::put(to, end, b'\n')
+        }
+        Line::Step {
+            state: s,
+            class,
+            pictograph,
+            next,
+        } => {
+            let end = word_step(to, at, s.step(class, pictograph, next));
+            out::put(to, end, b'\n')
+        }
+    }
+}
