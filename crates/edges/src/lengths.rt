@@ -74,7 +74,7 @@ fn each_column(b: &[u8], h: &[u16], w: &[u32], other: usize, usual: usize) {
     write(b"\n");
 }
 
-pub fn columns() {
+pub(crate) fn columns() {
     let b = [0u8; 4097];
     let h = [0u16; 4097];
     let w = [0u32; 4097];
@@ -103,7 +103,7 @@ fn word_cells(class: u8, pictograph: u8) {
     write(b"\n");
 }
 
-pub fn words() {
+pub(crate) fn words() {
     let b = [0u8; 4097];
     word_columns(&b, 0, 0);
     word_columns(&b, 4096, 4096);

@@ -219,7 +219,7 @@ fn mark_edges(column: u8) {
     code_edges(column, 2);
 }
 
-pub fn single_cells() {
+pub(crate) fn single_cells() {
     scalar_edges(0);
     code_edges(1, cluster_break::LEN);
     code_edges(2, use_class::LEN);
@@ -244,7 +244,7 @@ fn run_of_parts(first: u32, count: u32) {
     write(b"\n");
 }
 
-pub fn runs_of_parts() {
+pub(crate) fn runs_of_parts() {
     for count in 0..5u32 {
         run_of_parts(0, count);
         run_of_parts(1, count);
@@ -269,7 +269,7 @@ fn classes_of(parser: Parser, scalar_column: u8, use_column: u8, x: u32) {
 }
 
 // U+034F and its two neighbours.
-pub fn joiners() {
+pub(crate) fn joiners() {
     for k in 0..4 {
         for x in scalar::CGJ - 1..scalar::CGJ + 2 {
             classes_of(verdicts::parser(k), 0, 2, x);
@@ -302,7 +302,7 @@ fn signs_of(parser: Parser, decompose: u32, count: u32, part: u32) {
     write(b"\n");
 }
 
-pub fn khmer_signs() {
+pub(crate) fn khmer_signs() {
     for k in 0..4 {
         for count in 0..3u32 {
             signs_of(verdicts::parser(k), 0, count, scalar::KHMER_E);
@@ -318,7 +318,7 @@ fn order(a: Cell, b: Cell) {
 }
 
 // Two faults at once: which one is named.
-pub fn orders() {
+pub(crate) fn orders() {
     // a part's before a record's, whatever their numbers
     order(at(0, 0, 0xD800), at(17, 1, 3));
     // the lower index before the lower number

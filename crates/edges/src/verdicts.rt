@@ -4,15 +4,15 @@ use records::Parser;
 use records::Side;
 use records::Verdict;
 
-pub fn write(text: &[u8]) {
+pub(crate) fn write(text: &[u8]) {
     io::write_all(STDOUT_FILENO, text);
 }
 
-pub fn decimal(n: u64) {
+pub(crate) fn decimal(n: u64) {
     io::print_decimal(STDOUT_FILENO, n);
 }
 
-pub fn hex(n: u32) {
+pub(crate) fn hex(n: u32) {
     io::print_hex(STDOUT_FILENO, n as u64, 4);
 }
 
@@ -25,7 +25,7 @@ fn side(s: Side) {
 }
 
 // " ok", or " R NUMBER INDEX SIDE".
-pub fn verdict(v: Verdict) {
+pub(crate) fn verdict(v: Verdict) {
     match v {
         Verdict::Accepted => write(b" ok"),
         Verdict::Refused {
@@ -43,7 +43,7 @@ pub fn verdict(v: Verdict) {
 }
 
 // One sign: the number of the refusal, or a dot.
-pub fn sign(v: Verdict) {
+pub(crate) fn sign(v: Verdict) {
     match v {
         Verdict::Accepted => write(b"."),
         Verdict::Refused {
@@ -55,7 +55,7 @@ pub fn sign(v: Verdict) {
 }
 
 // The four parsers, by number.
-pub fn parser(k: usize) -> Parser {
+pub(crate) fn parser(k: usize) -> Parser {
     match k {
         0 => Parser::Simple,
         1 => Parser::Myanmar,
