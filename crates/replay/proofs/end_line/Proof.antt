@@ -3,37 +3,25 @@ use mathlib.Core.Path.{sym}
 use borrow.Author.Needs.{needs}
 use Rattle.replay.proofs.end_line.Statement.{statement}
 use Rattle.replay.proofs.end_line.Tie as tie
-use Rattle.replay.proofs.end_line.Reads as reads
-use Rattle.replay.proofs.end_line.Lts as lts
-use Rattle.replay.proofs.answers.answer.Reads as answer-reads
-use Rattle.replay.proofs.answers.not_of_layout.Reads as not-of-layout-reads
-use Rattle.std.proofs.num.wrapping_add_u64.Reads as wrapping-add-u64-reads
 
--- src/main.rt:21:9
 wrapping-add-u64-requires : tie.Need-wrapping-add-u64-requires
 wrapping-add-u64-requires c κs = search needs
 
--- src/main.rt:25:9
 not-of-layout-requires : tie.Need-not-of-layout-requires
 not-of-layout-requires c κs = search needs
 
--- src/main.rt:27:38
 slice-aggregate-answer : tie.Need-slice-aggregate-answer
 slice-aggregate-answer c = sym (length-take-le _ _ (c .before .before .if2 .taken))
 
--- src/main.rt:27:9
 answer-requires : tie.Need-answer-requires
 answer-requires c κs = search needs
 
--- src/main.rt:20:1
 returns : tie.Need-returns
 returns c = search needs
 
--- src/main.rt:20:1
 returns-2 : tie.Need-returns-2
 returns-2 c = search needs
 
--- src/main.rt:20:1
 returns-3 : tie.Need-returns-3
 returns-3 c = search needs
 

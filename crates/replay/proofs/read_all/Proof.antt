@@ -1,9 +1,6 @@
 use borrow.Author.Needs.{needs}
 use Rattle.replay.proofs.read_all.Statement.{statement}
 use Rattle.replay.proofs.read_all.Tie as tie
-use Rattle.replay.proofs.read_all.Reads as reads
-use Rattle.replay.proofs.read_all.Lts as lts
-use Rattle.replay.proofs.read_some.Reads as read-some-reads
 
 abbrev Inv-loop : tie.InvT-loop
 Inv-loop line₀ to₀ turn₀ turns₀ line to turn turns = Unit {0}
@@ -11,35 +8,27 @@ Inv-loop line₀ to₀ turn₀ turns₀ line to turn turns = Unit {0}
 abbrev μ-loop : tie.MeasureT-loop
 μ-loop line₀ to₀ turn₀ turns₀ line to turn turns = turns
 
--- src/main.rt:95:5
 loop-holds : tie.Need-loop-holds Inv-loop μ-loop
 loop-holds c = search needs
 
--- src/main.rt:96:9
 read-some-requires : tie.Need-read-some-requires Inv-loop μ-loop
 read-some-requires c κs = search needs
 
--- src/main.rt:98:13
 sub-turns : tie.Need-sub-turns Inv-loop μ-loop
 sub-turns c = search needs
 
--- src/main.rt:95:5
 loop-less : tie.Need-loop-less Inv-loop μ-loop
 loop-less c = search needs
 
--- src/main.rt:95:5
 loop-again : tie.Need-loop-again Inv-loop μ-loop
 loop-again c = search needs
 
--- src/main.rt:95:5
 loop-less-2 : tie.Need-loop-less-2 Inv-loop μ-loop
 loop-less-2 c = search needs
 
--- src/main.rt:95:5
 loop-again-2 : tie.Need-loop-again-2 Inv-loop μ-loop
 loop-again-2 c = search needs
 
--- src/main.rt:84:1
 returns : tie.Need-returns Inv-loop μ-loop
 returns c = search needs
 

@@ -5,36 +5,25 @@ use Rattle.cases.proofs.Fields.{fields}
 use borrow.Author.Needs.{needs}
 use Rattle.cases.proofs.columns.field8.Statement.{statement}
 use Rattle.cases.proofs.columns.field8.Tie as tie
-use Rattle.cases.proofs.columns.field8.Reads as reads
-use Rattle.cases.proofs.columns.field8.Lts as lts
-use Rattle.cases.proofs.numbers.read_number.Reads as read-number-reads
-use Rattle.cases.proofs.parts.part.Reads as part-reads
 
--- src/columns.rt:18:23
 part-requires : tie.Need-part-requires
 part-requires c κs = search needs
 
--- src/columns.rt:18:11
 read-number-requires : tie.Need-read-number-requires
 read-number-requires c κs = search needs
 
--- src/columns.rt:19:23
 enum-known-v : tie.Need-enum-known-v
 enum-known-v c = search needs
 
--- src/columns.rt:19:29
 cast-result : tie.Need-cast-result
 cast-result c = let h : c .before .v .given .0 .0 ≤ 255 = value-within _ _ _ _ (c .before .before .before .read-number .ensures) _ (c .before .v .given .1) in omega arith
 
--- src/columns.rt:20:28
 enum-told : tie.Need-enum-told
 enum-told c = search needs
 
--- src/columns.rt:15:1
 returns : tie.Need-returns
 returns c = search fields
 
--- src/columns.rt:15:1
 returns-2 : tie.Need-returns-2
 returns-2 c = search fields
 

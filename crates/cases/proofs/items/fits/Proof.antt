@@ -2,27 +2,19 @@ use Rattle.cases.proofs.Fields.{fields}
 use borrow.Author.Needs.{needs}
 use Rattle.cases.proofs.items.fits.Statement.{statement}
 use Rattle.cases.proofs.items.fits.Tie as tie
-use Rattle.cases.proofs.items.fits.Reads as reads
-use Rattle.cases.proofs.items.fits.Lts as lts
-use Rattle.cases.proofs.numbers.read_number.Reads as read-number-reads
 
--- src/items.rt:38:11
 read-number-requires : tie.Need-read-number-requires
 read-number-requires c κs = search needs
 
--- src/items.rt:39:29
 enum-told : tie.Need-enum-told
 enum-told c = search needs
 
--- src/items.rt:40:28
 enum-told-2 : tie.Need-enum-told-2
 enum-told-2 c = search needs
 
--- src/items.rt:35:1
 returns : tie.Need-returns
 returns c = search fields
 
--- src/items.rt:35:1
 returns-2 : tie.Need-returns-2
 returns-2 c = search fields
 

@@ -2,58 +2,40 @@ use Rattle.cases.proofs.Fields.{kinds}
 use borrow.Author.Needs.{needs}
 use Rattle.cases.proofs.items.is_field.Statement.{statement}
 use Rattle.cases.proofs.items.is_field.Tie as tie
-use Rattle.cases.proofs.items.is_field.Reads as reads
-use Rattle.cases.proofs.items.is_field.Lts as lts
-use Rattle.cases.proofs.items.fits.Reads as fits-reads
-use Rattle.cases.proofs.items.is_part_field.Reads as is-part-field-reads
-use Rattle.cases.proofs.items.is_record_field.Reads as is-record-field-reads
-use Rattle.cases.proofs.items.is_state_field.Reads as is-state-field-reads
 
--- src/items.rt:81:25
 enum-told : tie.Need-enum-told
 enum-told c = search needs
 
--- src/items.rt:81:25
 is-record-field-requires : tie.Need-is-record-field-requires
 is-record-field-requires c κs = search needs
 
--- src/items.rt:82:23
 enum-told-2 : tie.Need-enum-told-2
 enum-told-2 c = search needs
 
--- src/items.rt:82:23
 is-part-field-requires : tie.Need-is-part-field-requires
 is-part-field-requires c κs = search needs
 
--- src/items.rt:83:36
 enum-told-3 : tie.Need-enum-told-3
 enum-told-3 c = search needs
 
--- src/items.rt:83:23
 fits-requires : tie.Need-fits-requires
 fits-requires c κs = search needs
 
--- src/items.rt:84:24
 enum-told-4 : tie.Need-enum-told-4
 enum-told-4 c = search needs
 
--- src/items.rt:84:24
 is-state-field-requires : tie.Need-is-state-field-requires
 is-state-field-requires c κs = search needs
 
--- src/items.rt:77:1
 returns : tie.Need-returns
 returns c = search kinds
 
--- src/items.rt:77:1
 returns-2 : tie.Need-returns-2
 returns-2 c = search kinds
 
--- src/items.rt:77:1
 returns-3 : tie.Need-returns-3
 returns-3 c = search kinds
 
--- src/items.rt:77:1
 returns-4 : tie.Need-returns-4
 returns-4 c = search kinds
 

@@ -8,12 +8,6 @@ use Prim.Native.Nat.{_+_, _-_, _≤_}
 use borrow.Author.Needs.{needs}
 use Rattle.cases.proofs.items.is_item.Statement.{statement}
 use Rattle.cases.proofs.items.is_item.Tie as tie
-use Rattle.cases.proofs.items.is_item.Reads as reads
-use Rattle.cases.proofs.items.is_item.Lts as lts
-use Rattle.cases.proofs.items.commas.Reads as commas-reads
-use Rattle.cases.proofs.items.is_field.Reads as is-field-reads
-use Rattle.cases.proofs.parts.count.Reads as count-reads
-use Rattle.cases.proofs.parts.part.Reads as part-reads
 
 abbrev Inv-loop : tie.InvT-loop
 Inv-loop item kind last k₀ k = (k ≤ last + 1) × (allBelow (fieldFits kind item) k ≡ true)
@@ -21,47 +15,36 @@ Inv-loop item kind last k₀ k = (k ≤ last + 1) × (allBelow (fieldFits kind i
 abbrev μ-loop : tie.MeasureT-loop
 μ-loop item kind last k₀ k = last + 1 - k
 
--- src/items.rt:91:9
 commas-requires : tie.Need-commas-requires Inv-loop μ-loop
 commas-requires c κs = search needs
 
--- src/items.rt:92:8
 count-requires : tie.Need-count-requires Inv-loop μ-loop
 count-requires c κs = search needs
 
--- src/items.rt:93:9
 returns : tie.Need-returns Inv-loop μ-loop
 returns c = search item-uneven
 
--- src/items.rt:96:5
 loop-holds : tie.Need-loop-holds Inv-loop μ-loop
 loop-holds c = unfold allBelow in (search needs, refl)
 
--- src/items.rt:97:30
 part-requires : tie.Need-part-requires Inv-loop μ-loop
 part-requires c κs = search needs
 
--- src/items.rt:97:12
 is-field-requires : tie.Need-is-field-requires Inv-loop μ-loop
 is-field-requires c κs = search needs
 
--- src/items.rt:98:13
 add-k : tie.Need-add-k Inv-loop μ-loop
 add-k c = search needs
 
--- src/items.rt:96:5
 loop-less : tie.Need-loop-less Inv-loop μ-loop
 loop-less c = search needs
 
--- src/items.rt:96:5
 loop-again : tie.Need-loop-again Inv-loop μ-loop
 loop-again c = (search needs, search item-more)
 
--- src/items.rt:100:13
 returns-2 : tie.Need-returns-2 Inv-loop μ-loop
 returns-2 c = search item-fails
 
--- src/items.rt:88:1
 returns-3 : tie.Need-returns-3 Inv-loop μ-loop
 returns-3 c = item-all _ _ _ _ (c .before .before .before .count .ensures) (c .before .before .before .before .commas .ensures .0) (c .before .before .if1 .left) _ (c .before .loop .inv .1) (omega arith)
 

@@ -4,22 +4,16 @@ use mathlib.Core.Path.{refl}
 use borrow.Author.Needs.{needs}
 use Rattle.cases.proofs.items.item_count.Statement.{statement}
 use Rattle.cases.proofs.items.item_count.Tie as tie
-use Rattle.cases.proofs.items.item_count.Reads as reads
-use Rattle.cases.proofs.items.item_count.Lts as lts
 
--- src/items.rt:110:16
 cast-result : tie.Need-cast-result
 cast-result c = search needs
 
--- src/items.rt:110:16
 add-result : tie.Need-add-result
 add-result c = search needs
 
--- src/items.rt:110:9
 returns : tie.Need-returns
 returns c = unfold itemCount in search choices
 
--- src/items.rt:106:1
 returns-2 : tie.Need-returns-2
 returns-2 c = unfold itemCount in search choices
 

@@ -4,28 +4,19 @@ use mathlib.Core.Path.{refl}
 use borrow.Author.Needs.{needs}
 use Rattle.cases.proofs.lines.asked_of.Statement.{statement}
 use Rattle.cases.proofs.lines.asked_of.Tie as tie
-use Rattle.cases.proofs.lines.asked_of.Reads as reads
-use Rattle.cases.proofs.lines.asked_of.Lts as lts
-use Rattle.cases.proofs.lines.khmer_asked.Reads as khmer-asked-reads
-use Rattle.cases.proofs.lines.plain_asked.Reads as plain-asked-reads
 
--- src/lines.rt:133:9
 plain-asked-requires : tie.Need-plain-asked-requires
 plain-asked-requires c κs = search needs
 
--- src/lines.rt:133:9
 returns : tie.Need-returns
 returns c = unfold askedOf in search choices depth 8
 
--- src/lines.rt:136:9
 khmer-asked-requires : tie.Need-khmer-asked-requires
 khmer-asked-requires c κs = search needs
 
--- src/lines.rt:136:9
 returns-2 : tie.Need-returns-2
 returns-2 c = unfold askedOf in search choices depth 8
 
--- src/lines.rt:129:1
 returns-3 : tie.Need-returns-3
 returns-3 c = unfold askedOf in search choices depth 8
 

@@ -4,22 +4,16 @@ use mathlib.Core.Path.{refl}
 use borrow.Author.Needs.{needs}
 use Rattle.cases.proofs.lines.full_asked.Statement.{statement}
 use Rattle.cases.proofs.lines.full_asked.Tie as tie
-use Rattle.cases.proofs.lines.full_asked.Reads as reads
-use Rattle.cases.proofs.lines.full_asked.Lts as lts
 
--- src/lines.rt:91:9
 returns : tie.Need-returns
 returns c = unfold fullAsked in search choices depth 8
 
--- src/lines.rt:97:9
 returns-2 : tie.Need-returns-2
 returns-2 c = unfold fullAsked in search choices depth 8
 
--- src/lines.rt:103:9
 returns-3 : tie.Need-returns-3
 returns-3 c = unfold fullAsked in search choices depth 8
 
--- src/lines.rt:87:1
 returns-4 : tie.Need-returns-4
 returns-4 c = unfold fullAsked in search choices depth 8
 

@@ -4,18 +4,13 @@ use mathlib.Core.Path.{refl}
 use borrow.Author.Needs.{needs}
 use Rattle.cases.proofs.lines.khmer_asked.Statement.{statement}
 use Rattle.cases.proofs.lines.khmer_asked.Tie as tie
-use Rattle.cases.proofs.lines.khmer_asked.Reads as reads
-use Rattle.cases.proofs.lines.khmer_asked.Lts as lts
 
--- src/lines.rt:115:9
 returns : tie.Need-returns
 returns c = unfold khmerAsked in search choices depth 8
 
--- src/lines.rt:121:9
 returns-2 : tie.Need-returns-2
 returns-2 c = unfold khmerAsked in search choices depth 8
 
--- src/lines.rt:111:1
 returns-3 : tie.Need-returns-3
 returns-3 c = unfold khmerAsked in search choices depth 8
 

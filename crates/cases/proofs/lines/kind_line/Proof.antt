@@ -4,50 +4,34 @@ use mathlib.Core.Path.{refl}
 use borrow.Author.Needs.{needs}
 use Rattle.cases.proofs.lines.kind_line.Statement.{statement}
 use Rattle.cases.proofs.lines.kind_line.Tie as tie
-use Rattle.cases.proofs.lines.kind_line.Reads as reads
-use Rattle.cases.proofs.lines.kind_line.Lts as lts
-use Rattle.cases.proofs.lines.step_line.Reads as step-line-reads
-use Rattle.cases.proofs.lines.text_line.Reads as text-line-reads
-use Rattle.cases.proofs.lines.words_line.Reads as words-line-reads
-use Rattle.cases.proofs.parts.count.Reads as count-reads
 
--- src/lines.rt:248:9
 count-requires : tie.Need-count-requires
 count-requires c κs = search needs
 
--- src/lines.rt:250:9
 text-line-requires : tie.Need-text-line-requires
 text-line-requires c κs = search needs
 
--- src/lines.rt:250:9
 returns : tie.Need-returns
 returns c = unfold kindLine in search asks depth 8
 
--- src/lines.rt:254:13
 words-line-requires : tie.Need-words-line-requires
 words-line-requires c κs = search needs
 
--- src/lines.rt:254:13
 returns-2 : tie.Need-returns-2
 returns-2 c = unfold kindLine in search asks depth 8
 
--- src/lines.rt:256:9
 returns-3 : tie.Need-returns-3
 returns-3 c = unfold kindLine in search asks depth 8
 
--- src/lines.rt:260:13
 step-line-requires : tie.Need-step-line-requires
 step-line-requires c κs = search needs
 
--- src/lines.rt:260:13
 returns-4 : tie.Need-returns-4
 returns-4 c = unfold kindLine in search asks depth 8
 
--- src/lines.rt:245:1
 returns-5 : tie.Need-returns-5
 returns-5 c = unfold kindLine in search asks depth 8
 
--- src/lines.rt:245:1
 returns-6 : tie.Need-returns-6
 returns-6 c = unfold kindLine in search asks depth 8
 

@@ -2,27 +2,19 @@ use Rattle.cases.proofs.Asks.{state-read}
 use borrow.Author.Needs.{needs}
 use Rattle.cases.proofs.lines.state_of.Statement.{statement}
 use Rattle.cases.proofs.lines.state_of.Tie as tie
-use Rattle.cases.proofs.lines.state_of.Reads as reads
-use Rattle.cases.proofs.lines.state_of.Lts as lts
-use Rattle.cases.proofs.columns.field8.Reads as field8-reads
 
--- src/lines.rt:202:16
 field8-requires : tie.Need-field8-requires
 field8-requires c κs = search needs
 
--- src/lines.rt:203:19
 field8-requires-2 : tie.Need-field8-requires-2
 field8-requires-2 c κs = search needs
 
--- src/lines.rt:204:18
 field8-requires-3 : tie.Need-field8-requires-3
 field8-requires-3 c κs = search needs
 
--- src/lines.rt:205:16
 field8-requires-4 : tie.Need-field8-requires-4
 field8-requires-4 c κs = search needs
 
--- src/lines.rt:198:1
 returns : tie.Need-returns
 returns c = search state-read
 

@@ -4,41 +4,28 @@ use mathlib.Core.Path.{refl}
 use borrow.Author.Needs.{needs}
 use Rattle.cases.proofs.lines.step_line.Statement.{statement}
 use Rattle.cases.proofs.lines.step_line.Tie as tie
-use Rattle.cases.proofs.lines.step_line.Reads as reads
-use Rattle.cases.proofs.lines.step_line.Lts as lts
-use Rattle.cases.proofs.items.is_item.Reads as is-item-reads
-use Rattle.cases.proofs.lines.next_line.Reads as next-line-reads
-use Rattle.cases.proofs.parts.part.Reads as part-reads
 
--- src/lines.rt:237:16
 part-requires : tie.Need-part-requires
 part-requires c κs = search needs
 
--- src/lines.rt:237:8
 is-item-requires : tie.Need-is-item-requires
 is-item-requires c κs = search needs
 
--- src/lines.rt:238:20
 part-requires-2 : tie.Need-part-requires-2
 part-requires-2 c κs = search needs
 
--- src/lines.rt:238:12
 is-item-requires-2 : tie.Need-is-item-requires-2
 is-item-requires-2 c κs = search needs
 
--- src/lines.rt:239:13
 next-line-requires : tie.Need-next-line-requires
 next-line-requires c κs = search needs
 
--- src/lines.rt:239:13
 returns : tie.Need-returns
 returns c = unfold stepLine in search asks depth 8
 
--- src/lines.rt:234:1
 returns-2 : tie.Need-returns-2
 returns-2 c = unfold stepLine in search asks depth 8
 
--- src/lines.rt:234:1
 returns-3 : tie.Need-returns-3
 returns-3 c = unfold stepLine in search asks depth 8
 

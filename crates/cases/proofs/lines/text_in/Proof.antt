@@ -2,73 +2,52 @@ use Rattle.cases.proofs.Asks.{texts}
 use borrow.Author.Needs.{needs}
 use Rattle.cases.proofs.lines.text_in.Statement.{statement}
 use Rattle.cases.proofs.lines.text_in.Tie as tie
-use Rattle.cases.proofs.lines.text_in.Reads as reads
-use Rattle.cases.proofs.lines.text_in.Lts as lts
-use Rattle.cases.proofs.items.count_items.Reads as count-items-reads
-use Rattle.cases.proofs.numbers.read_number.Reads as read-number-reads
-use Rattle.cases.proofs.parts.part.Reads as part-reads
 
--- src/lines.rt:144:45
 part-requires : tie.Need-part-requires
 part-requires c κs = search needs
 
--- src/lines.rt:144:33
 read-number-requires : tie.Need-read-number-requires
 read-number-requires c κs = search needs
 
--- src/lines.rt:144:23
 enum-known-number : tie.Need-enum-known-number
 enum-known-number c = search needs
 
--- src/lines.rt:145:9
 enum-told : tie.Need-enum-told
 enum-told c = search needs
 
--- src/lines.rt:145:9
 returns : tie.Need-returns
 returns c = search texts
 
--- src/lines.rt:147:46
 part-requires-2 : tie.Need-part-requires-2
 part-requires-2 c κs = search needs
 
--- src/lines.rt:147:34
 count-items-requires : tie.Need-count-items-requires
 count-items-requires c κs = search needs
 
--- src/lines.rt:147:23
 enum-known-records : tie.Need-enum-known-records
 enum-known-records c = search needs
 
--- src/lines.rt:148:9
 enum-told-2 : tie.Need-enum-told-2
 enum-told-2 c = search needs
 
--- src/lines.rt:148:9
 returns-2 : tie.Need-returns-2
 returns-2 c = search texts
 
--- src/lines.rt:150:44
 part-requires-3 : tie.Need-part-requires-3
 part-requires-3 c κs = search needs
 
--- src/lines.rt:150:32
 count-items-requires-2 : tie.Need-count-items-requires-2
 count-items-requires-2 c κs = search needs
 
--- src/lines.rt:150:23
 enum-known-parts : tie.Need-enum-known-parts
 enum-known-parts c = search needs
 
--- src/lines.rt:151:9
 enum-told-3 : tie.Need-enum-told-3
 enum-told-3 c = search needs
 
--- src/lines.rt:151:9
 returns-3 : tie.Need-returns-3
 returns-3 c = search texts
 
--- src/lines.rt:141:1
 returns-4 : tie.Need-returns-4
 returns-4 c = search texts
 

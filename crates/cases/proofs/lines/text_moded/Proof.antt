@@ -4,49 +4,34 @@ use mathlib.Core.Path.{refl}
 use borrow.Author.Needs.{needs}
 use Rattle.cases.proofs.lines.text_moded.Statement.{statement}
 use Rattle.cases.proofs.lines.text_moded.Tie as tie
-use Rattle.cases.proofs.lines.text_moded.Reads as reads
-use Rattle.cases.proofs.lines.text_moded.Lts as lts
-use Rattle.cases.proofs.lines.text_in.Reads as text-in-reads
-use Rattle.cases.proofs.parts.part.Reads as part-reads
-use Rattle.cases.proofs.parts.same.Reads as same-reads
 
--- src/lines.rt:166:9
 part-requires : tie.Need-part-requires
 part-requires c κs = search needs
 
--- src/lines.rt:167:19
 slice-aggregate-same : tie.Need-slice-aggregate-same
 slice-aggregate-same c = search needs
 
--- src/lines.rt:167:8
 same-requires : tie.Need-same-requires
 same-requires c κs = search needs
 
--- src/lines.rt:168:9
 text-in-requires : tie.Need-text-in-requires
 text-in-requires c κs = search needs
 
--- src/lines.rt:168:9
 returns : tie.Need-returns
 returns c = unfold moded in search asks depth 8
 
--- src/lines.rt:170:19
 slice-aggregate-same-2 : tie.Need-slice-aggregate-same-2
 slice-aggregate-same-2 c = search needs
 
--- src/lines.rt:170:8
 same-requires-2 : tie.Need-same-requires-2
 same-requires-2 c κs = search needs
 
--- src/lines.rt:171:9
 text-in-requires-2 : tie.Need-text-in-requires-2
 text-in-requires-2 c κs = search needs
 
--- src/lines.rt:171:9
 returns-2 : tie.Need-returns-2
 returns-2 c = unfold moded in search asks depth 8
 
--- src/lines.rt:163:1
 returns-3 : tie.Need-returns-3
 returns-3 c = unfold moded in search asks depth 8
 

@@ -2,53 +2,37 @@ use Rattle.cases.proofs.Asks.{runs}
 use borrow.Author.Needs.{needs}
 use Rattle.cases.proofs.lines.words_line.Statement.{statement}
 use Rattle.cases.proofs.lines.words_line.Tie as tie
-use Rattle.cases.proofs.lines.words_line.Reads as reads
-use Rattle.cases.proofs.lines.words_line.Lts as lts
-use Rattle.cases.proofs.items.count_items.Reads as count-items-reads
-use Rattle.cases.proofs.numbers.read_number.Reads as read-number-reads
-use Rattle.cases.proofs.parts.part.Reads as part-reads
 
--- src/lines.rt:189:44
 part-requires : tie.Need-part-requires
 part-requires c κs = search needs
 
--- src/lines.rt:189:32
 read-number-requires : tie.Need-read-number-requires
 read-number-requires c κs = search needs
 
--- src/lines.rt:189:23
 enum-known-cells : tie.Need-enum-known-cells
 enum-known-cells c = search needs
 
--- src/lines.rt:190:9
 enum-told : tie.Need-enum-told
 enum-told c = search needs
 
--- src/lines.rt:190:9
 returns : tie.Need-returns
 returns c = search runs
 
--- src/lines.rt:192:46
 part-requires-2 : tie.Need-part-requires-2
 part-requires-2 c κs = search needs
 
--- src/lines.rt:192:34
 count-items-requires : tie.Need-count-items-requires
 count-items-requires c κs = search needs
 
--- src/lines.rt:192:23
 enum-known-records : tie.Need-enum-known-records
 enum-known-records c = search needs
 
--- src/lines.rt:193:9
 enum-told-2 : tie.Need-enum-told-2
 enum-told-2 c = search needs
 
--- src/lines.rt:193:9
 returns-2 : tie.Need-returns-2
 returns-2 c = search runs
 
--- src/lines.rt:186:1
 returns-3 : tie.Need-returns-3
 returns-3 c = search runs
 

@@ -5,10 +5,6 @@ use Prim.Native.Nat.{_≤_, _-_}
 use borrow.Author.Needs.{needs}
 use Rattle.cases.proofs.numbers.read_number.Statement.{statement}
 use Rattle.cases.proofs.numbers.read_number.Tie as tie
-use Rattle.cases.proofs.numbers.read_number.Reads as reads
-use Rattle.cases.proofs.numbers.read_number.Lts as lts
-use Rattle.cases.proofs.numbers.digit.Reads as digit-reads
-use Rattle.cases.proofs.numbers.radix.Reads as radix-reads
 
 abbrev Inv-loop : tie.InvT-loop
 Inv-loop digits most by v₀ i₀ v i = (v ≤ most) × Left by most digits v i
@@ -16,59 +12,45 @@ Inv-loop digits most by v₀ i₀ v i = (v ≤ most) × Left by most digits v i
 abbrev μ-loop : tie.MeasureT-loop
 μ-loop digits most by v₀ i₀ v i = length digits - i
 
--- src/numbers.rt:64:9
 returns : tie.Need-returns Inv-loop μ-loop
 returns c = search readings
 
--- src/numbers.rt:66:9
 radix-requires : tie.Need-radix-requires Inv-loop μ-loop
 radix-requires c κs = search needs
 
--- src/numbers.rt:69:5
 loop-holds : tie.Need-loop-holds Inv-loop μ-loop
 loop-holds c = (search needs, left-all _ _ _ (c .before .if1 .left))
 
--- src/numbers.rt:70:23
 shared-slice-read-digit : tie.Need-shared-slice-read-digit Inv-loop μ-loop
 shared-slice-read-digit c = search needs
 
--- src/numbers.rt:70:13
 digit-requires : tie.Need-digit-requires Inv-loop μ-loop
 digit-requires c κs = search needs
 
--- src/numbers.rt:72:13
 returns-2 : tie.Need-returns-2 Inv-loop μ-loop
 returns-2 c = search readings
 
--- src/numbers.rt:74:13
 mul-v : tie.Need-mul-v Inv-loop μ-loop
 mul-v c = omega (arith, grows (c .before .before .before .before .loop .v) _ (c .before .before .before .before .before .radix .ensures .1))
 
--- src/numbers.rt:74:13
 add-v : tie.Need-add-v Inv-loop μ-loop
 add-v c = omega (arith, grows (c .before .before .before .before .loop .v) _ (c .before .before .before .before .before .radix .ensures .1))
 
--- src/numbers.rt:76:13
 returns-3 : tie.Need-returns-3 Inv-loop μ-loop
 returns-3 c = search readings
 
--- src/numbers.rt:78:9
 add-i : tie.Need-add-i Inv-loop μ-loop
 add-i c = search needs
 
--- src/numbers.rt:69:5
 loop-less : tie.Need-loop-less Inv-loop μ-loop
 loop-less c = search needs
 
--- src/numbers.rt:69:5
 loop-again : tie.Need-loop-again Inv-loop μ-loop
 loop-again c = (search needs, search left-more)
 
--- src/numbers.rt:80:19
 cast-t15 : tie.Need-cast-t15 Inv-loop μ-loop
 cast-t15 c = search needs
 
--- src/numbers.rt:60:1
 returns-4 : tie.Need-returns-4 Inv-loop μ-loop
 returns-4 c = search readings
 

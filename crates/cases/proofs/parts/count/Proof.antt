@@ -8,8 +8,6 @@ use Prim.Native.Nat.{_+_, _-_, _≤_}
 use borrow.Author.Needs.{needs}
 use Rattle.cases.proofs.parts.count.Statement.{statement}
 use Rattle.cases.proofs.parts.count.Tie as tie
-use Rattle.cases.proofs.parts.count.Reads as reads
-use Rattle.cases.proofs.parts.count.Lts as lts
 
 abbrev Inv-loop : tie.InvT-loop
 Inv-loop xs s n₀ i₀ n i = (n ≤ i) × (n + count s (drop i xs) ≡ count s xs)
@@ -17,31 +15,24 @@ Inv-loop xs s n₀ i₀ n i = (n ≤ i) × (n + count s (drop i xs) ≡ count s 
 abbrev μ-loop : tie.MeasureT-loop
 μ-loop xs s n₀ i₀ n i = length xs - i
 
--- src/parts.rt:61:5
 loop-holds : tie.Need-loop-holds Inv-loop μ-loop
 loop-holds c = search needs
 
--- src/parts.rt:62:12
 shared-slice-read-if1 : tie.Need-shared-slice-read-if1 Inv-loop μ-loop
 shared-slice-read-if1 c = search needs
 
--- src/parts.rt:63:13
 add-n : tie.Need-add-n Inv-loop μ-loop
 add-n c = search needs
 
--- src/parts.rt:65:9
 add-i : tie.Need-add-i Inv-loop μ-loop
 add-i c = search needs
 
--- src/parts.rt:61:5
 loop-less : tie.Need-loop-less Inv-loop μ-loop
 loop-less c = search needs
 
--- src/parts.rt:61:5
 loop-again : tie.Need-loop-again Inv-loop μ-loop
 loop-again c = ⊎-elim (λ w. (omega arith, count-here _ _ _ _ _ (c .before .before .before .loop .inv .1) _ (w .1) (c .before .before .loop-test .taken) (w .0 .taken))) (λ w. (omega arith, count-pass _ _ _ _ _ (c .before .before .before .loop .inv .1) _ (w .1) (c .before .before .loop-test .taken) (w .0 .left))) (c .if1 .came)
 
--- src/parts.rt:56:1
 returns : tie.Need-returns Inv-loop μ-loop
 returns c = search count-over
 

@@ -7,8 +7,6 @@ use Prim.Native.Nat.{_+_, _-_}
 use borrow.Author.Needs.{needs}
 use Rattle.cases.proofs.parts.end_of.Statement.{statement}
 use Rattle.cases.proofs.parts.end_of.Tie as tie
-use Rattle.cases.proofs.parts.end_of.Reads as reads
-use Rattle.cases.proofs.parts.end_of.Lts as lts
 
 abbrev Inv-loop : tie.InvT-loop
 Inv-loop xs at s i₀ i = i + before s (drop i xs) ≡ at + before s (drop at xs)
@@ -16,31 +14,24 @@ Inv-loop xs at s i₀ i = i + before s (drop i xs) ≡ at + before s (drop at xs
 abbrev μ-loop : tie.MeasureT-loop
 μ-loop xs at s i₀ i = length xs - i
 
--- src/parts.rt:13:5
 loop-holds : tie.Need-loop-holds Inv-loop μ-loop
 loop-holds c = refl
 
--- src/parts.rt:14:12
 shared-slice-read-if1 : tie.Need-shared-slice-read-if1 Inv-loop μ-loop
 shared-slice-read-if1 c = search needs
 
--- src/parts.rt:15:13
 returns : tie.Need-returns Inv-loop μ-loop
 returns c = search end-here
 
--- src/parts.rt:17:9
 add-i : tie.Need-add-i Inv-loop μ-loop
 add-i c = search needs
 
--- src/parts.rt:13:5
 loop-less : tie.Need-loop-less Inv-loop μ-loop
 loop-less c = search needs
 
--- src/parts.rt:13:5
 loop-again : tie.Need-loop-again Inv-loop μ-loop
 loop-again c = search end-pass
 
--- src/parts.rt:9:1
 returns-2 : tie.Need-returns-2 Inv-loop μ-loop
 returns-2 c = search end-over
 

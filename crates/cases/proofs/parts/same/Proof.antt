@@ -8,8 +8,6 @@ use Prim.Native.Nat.{_+_, _-_, _≤_}
 use borrow.Author.Needs.{needs}
 use Rattle.cases.proofs.parts.same.Statement.{statement}
 use Rattle.cases.proofs.parts.same.Tie as tie
-use Rattle.cases.proofs.parts.same.Reads as reads
-use Rattle.cases.proofs.parts.same.Lts as lts
 
 abbrev Inv-loop : tie.InvT-loop
 Inv-loop xs ys i₀ i = (i ≤ length xs) × (allBelow (agree xs ys) i ≡ true)
@@ -17,39 +15,30 @@ Inv-loop xs ys i₀ i = (i ≤ length xs) × (allBelow (agree xs ys) i ≡ true)
 abbrev μ-loop : tie.MeasureT-loop
 μ-loop xs ys i₀ i = length xs - i
 
--- src/parts.rt:74:9
 returns : tie.Need-returns Inv-loop μ-loop
 returns c = search equal-short
 
--- src/parts.rt:77:5
 loop-holds : tie.Need-loop-holds Inv-loop μ-loop
 loop-holds c = unfold allBelow in (search needs, refl)
 
--- src/parts.rt:78:12
 shared-slice-read-if2 : tie.Need-shared-slice-read-if2 Inv-loop μ-loop
 shared-slice-read-if2 c = search needs
 
--- src/parts.rt:78:21
 shared-slice-read-if2-2 : tie.Need-shared-slice-read-if2-2 Inv-loop μ-loop
 shared-slice-read-if2-2 c = search needs
 
--- src/parts.rt:79:13
 returns-2 : tie.Need-returns-2 Inv-loop μ-loop
 returns-2 c = search equal-fails
 
--- src/parts.rt:81:9
 add-i : tie.Need-add-i Inv-loop μ-loop
 add-i c = search needs
 
--- src/parts.rt:77:5
 loop-less : tie.Need-loop-less Inv-loop μ-loop
 loop-less c = search needs
 
--- src/parts.rt:77:5
 loop-again : tie.Need-loop-again Inv-loop μ-loop
 loop-again c = (search needs, equal-more _ _ _ (c .before .before .before .before .loop .inv .1) (c .if2 .left))
 
--- src/parts.rt:70:1
 returns-3 : tie.Need-returns-3 Inv-loop μ-loop
 returns-3 c = equal-all _ _ (c .before .before .if1 .left) _ (c .before .loop .inv .1) (omega arith)
 

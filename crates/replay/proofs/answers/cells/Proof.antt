@@ -2,11 +2,6 @@ use Prim.Native.Nat.{_-_}
 use borrow.Author.Needs.{needs}
 use Rattle.replay.proofs.answers.cells.Statement.{statement}
 use Rattle.replay.proofs.answers.cells.Tie as tie
-use Rattle.replay.proofs.answers.cells.Reads as reads
-use Rattle.replay.proofs.answers.cells.Lts as lts
-use Rattle.records.proofs.cells.cell8.Reads as cell8-reads
-use Rattle.replay.proofs.out.decimal.Reads as decimal-reads
-use Rattle.replay.proofs.out.put.Reads as put-reads
 
 abbrev Inv-loop : tie.InvT-loop
 Inv-loop to₀ at answers n end₀ i₀ to end i = Unit {0}
@@ -14,39 +9,30 @@ Inv-loop to₀ at answers n end₀ i₀ to end i = Unit {0}
 abbrev μ-loop : tie.MeasureT-loop
 μ-loop to₀ at answers n end₀ i₀ to end i = n - i
 
--- src/answers.rt:32:5
 loop-holds : tie.Need-loop-holds Inv-loop μ-loop
 loop-holds c = search needs
 
--- src/answers.rt:34:13
 put-requires : tie.Need-put-requires Inv-loop μ-loop
 put-requires c κs = search needs
 
--- src/answers.rt:36:37
 cell8-requires : tie.Need-cell8-requires Inv-loop μ-loop
 cell8-requires c κs = search needs
 
--- src/answers.rt:36:37
 cast-decimal : tie.Need-cast-decimal Inv-loop μ-loop
 cast-decimal c = search needs
 
--- src/answers.rt:36:9
 decimal-requires : tie.Need-decimal-requires Inv-loop μ-loop
 decimal-requires c κs = search needs
 
--- src/answers.rt:37:9
 add-i : tie.Need-add-i Inv-loop μ-loop
 add-i c = search needs
 
--- src/answers.rt:32:5
 loop-less : tie.Need-loop-less Inv-loop μ-loop
 loop-less c = search needs
 
--- src/answers.rt:32:5
 loop-again : tie.Need-loop-again Inv-loop μ-loop
 loop-again c = search needs
 
--- src/answers.rt:29:1
 returns : tie.Need-returns Inv-loop μ-loop
 returns c = search needs
 

@@ -3,9 +3,6 @@ use lib.ListN.{length}
 use borrow.Author.Needs.{needs}
 use Rattle.replay.proofs.out.text.Statement.{statement}
 use Rattle.replay.proofs.out.text.Tie as tie
-use Rattle.replay.proofs.out.text.Reads as reads
-use Rattle.replay.proofs.out.text.Lts as lts
-use Rattle.replay.proofs.out.put.Reads as put-reads
 
 abbrev Inv-loop : tie.InvT-loop
 Inv-loop out₀ at bytes end₀ i₀ out end i = Unit {0}
@@ -13,31 +10,24 @@ Inv-loop out₀ at bytes end₀ i₀ out end i = Unit {0}
 abbrev μ-loop : tie.MeasureT-loop
 μ-loop out₀ at bytes end₀ i₀ out end i = length bytes - i
 
--- src/out.rt:26:5
 loop-holds : tie.Need-loop-holds Inv-loop μ-loop
 loop-holds c = search needs
 
--- src/out.rt:27:29
 shared-slice-read-put : tie.Need-shared-slice-read-put Inv-loop μ-loop
 shared-slice-read-put c = search needs
 
--- src/out.rt:27:9
 put-requires : tie.Need-put-requires Inv-loop μ-loop
 put-requires c κs = search needs
 
--- src/out.rt:28:9
 add-i : tie.Need-add-i Inv-loop μ-loop
 add-i c = search needs
 
--- src/out.rt:26:5
 loop-less : tie.Need-loop-less Inv-loop μ-loop
 loop-less c = search needs
 
--- src/out.rt:26:5
 loop-again : tie.Need-loop-again Inv-loop μ-loop
 loop-again c = search needs
 
--- src/out.rt:23:1
 returns : tie.Need-returns Inv-loop μ-loop
 returns c = search needs
 
