@@ -3,68 +3,50 @@ use Rattle.records.proofs.Chain.{verdict-refused, verdict-passed, khmer
 use borrow.Author.Needs.{needs}
 use Rattle.records.proofs.check.Statement.{statement}
 use Rattle.records.proofs.check.Tie as tie
-use Rattle.records.proofs.check.Reads as reads
-use Rattle.records.proofs.check.Lts as lts
-use Rattle.records.proofs.judge.is_khmer.Reads as is-khmer-reads
-use Rattle.records.proofs.judge.judge_lengths.Reads as judge-lengths-reads
-use Rattle.records.proofs.sets.judge_parts.Reads as judge-parts-reads
-use Rattle.records.proofs.sets.judge_records.Reads as judge-records-reads
-use Rattle.records.proofs.sets.judge_signs.Reads as judge-signs-reads
 
--- src/lib.rt:105:31
 slice-aggregate-judge-lengths : tie.Need-slice-aggregate-judge-lengths
 slice-aggregate-judge-lengths c = search needs
 
--- src/lib.rt:105:41
 slice-aggregate-judge-lengths-2 : tie.Need-slice-aggregate-judge-lengths-2
 slice-aggregate-judge-lengths-2 c = search needs
 
--- src/lib.rt:105:9
 judge-lengths-requires : tie.Need-judge-lengths-requires
 judge-lengths-requires c κs = search needs
 
 enum-told : tie.Need-enum-told
 enum-told c = search needs
 
--- src/lib.rt:107:9
 enum-told-2 : tie.Need-enum-told-2
 enum-told-2 c = search needs
 
--- src/lib.rt:107:9
 returns : tie.Need-returns
 unfolding verdict
 returns c = verdict-refused _ _ _ (c .before .before .judge-lengths .ensures) _ _ _ (c .enum-told2 .given .1)
 
--- src/lib.rt:109:9
 judge-parts-requires : tie.Need-judge-parts-requires
 judge-parts-requires c κs = search needs
 
 enum-told-3 : tie.Need-enum-told-3
 enum-told-3 c = search needs
 
--- src/lib.rt:111:9
 enum-told-4 : tie.Need-enum-told-4
 enum-told-4 c = search needs
 
--- src/lib.rt:111:9
 returns-2 : tie.Need-returns-2
 unfolding verdict
 returns-2 c =
     verdict-passed _ _ _ (c .before .before .before .before .before .judge-lengths .ensures) _ (c .before .before .before .enum-told .given .1)
     (verdict-refused _ _ _ (c .before .before .judge-parts .ensures) _ _ _ (c .enum-told4 .given .1))
 
--- src/lib.rt:113:9
 judge-records-requires : tie.Need-judge-records-requires
 judge-records-requires c κs = search needs
 
 enum-told-5 : tie.Need-enum-told-5
 enum-told-5 c = search needs
 
--- src/lib.rt:115:9
 enum-told-6 : tie.Need-enum-told-6
 enum-told-6 c = search needs
 
--- src/lib.rt:115:9
 returns-3 : tie.Need-returns-3
 unfolding verdict
 returns-3 c =
@@ -72,15 +54,12 @@ returns-3 c =
     (verdict-passed _ _ _ (c .before .before .before .before .before .judge-parts .ensures) _ (c .before .before .before .enum-told3 .given .1)
     (verdict-refused _ _ _ (c .before .before .judge-records .ensures) _ _ _ (c .enum-told6 .given .1)))
 
--- src/lib.rt:117:8
 is-khmer-requires : tie.Need-is-khmer-requires
 is-khmer-requires c κs = search needs
 
--- src/lib.rt:118:9
 judge-signs-requires : tie.Need-judge-signs-requires
 judge-signs-requires c κs = search needs
 
--- src/lib.rt:118:9
 returns-4 : tie.Need-returns-4
 unfolding verdict judgeSigns
 returns-4 c =
@@ -89,7 +68,6 @@ returns-4 c =
     (verdict-passed _ _ _ (c .before .before .before .before .before .judge-records .ensures) _ (c .before .before .before .enum-told5 .given .1)
     (khmer-asks _ _ _ _ (c .before .before .is-khmer .ensures) (c .before .if1 .taken) (c .judge-signs .ensures))))
 
--- src/lib.rt:65:1
 returns-5 : tie.Need-returns-5
 unfolding verdict judgeSigns
 returns-5 c =

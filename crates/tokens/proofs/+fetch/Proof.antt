@@ -24,7 +24,6 @@ fetch-at t = and 13 fetch-kinds.ps (is 13 fetch-kinds.ps μ-fetch t) fetch.Pre
 abbrev fetch-below : ℕ → In 13 fetch-kinds.ps
 fetch-below t = and 13 fetch-kinds.ps (falls 13 fetch-kinds.ps _<_ μ-fetch t) fetch.Pre
 
--- src/lib.rt:38:13
 fetch-pieces-at-requires : (t : ℕ) → fetch-lts.Need-pieces-at-requires (
   pieces-at-reads.Asked,
   pieces-at-reads.Learnt,
@@ -35,7 +34,6 @@ fetch-pieces-at-requires : (t : ℕ) → fetch-lts.Need-pieces-at-requires (
 ) (fetch-at t) fetch.Post
 fetch-pieces-at-requires t c κs = search needs
 
--- src/lib.rt:40:17
 fetch-piece-requires : (t : ℕ) → fetch-lts.Need-piece-requires (
   pieces-at-reads.Asked,
   pieces-at-reads.Learnt,
@@ -46,7 +44,6 @@ fetch-piece-requires : (t : ℕ) → fetch-lts.Need-piece-requires (
 ) (fetch-at t) fetch.Post
 fetch-piece-requires t c κs = omega (arith, c .before .pieces-at .ensures .1)
 
--- src/lib.rt:41:59
 fetch-add-t22 : (t : ℕ) → fetch-lts.Need-add-t22 (
   pieces-at-reads.Asked,
   pieces-at-reads.Learnt,
@@ -57,7 +54,6 @@ fetch-add-t22 : (t : ℕ) → fetch-lts.Need-add-t22 (
 ) (fetch-at t) fetch.Post
 fetch-add-t22 t c = search needs
 
--- src/lib.rt:41:13
 fetch-returns : (t : ℕ) → fetch-lts.Need-returns (
   pieces-at-reads.Asked,
   pieces-at-reads.Learnt,
@@ -68,7 +64,6 @@ fetch-returns : (t : ℕ) → fetch-lts.Need-returns (
 ) (fetch-at t) fetch.Post
 fetch-returns t c = fetch-here _ _ _ _ _ (c .before .before .pieces-at .ensures .0 ∙ sym (length-split _ _ _ _ _)) _ (c .before .before .before .if1 .taken) (c .before .if2 .taken) (c .piece .ensures)
 
--- src/lib.rt:43:151
 fetch-add-fetch : (t : ℕ) → fetch-lts.Need-add-fetch (
   pieces-at-reads.Asked,
   pieces-at-reads.Learnt,
@@ -79,7 +74,6 @@ fetch-add-fetch : (t : ℕ) → fetch-lts.Need-add-fetch (
 ) (fetch-at t) fetch.Post
 fetch-add-fetch t c = search needs
 
--- src/lib.rt:43:9
 fetch-fetch-requires : (t : ℕ) → fetch-lts.Need-fetch-requires (
   pieces-at-reads.Asked,
   pieces-at-reads.Learnt,
@@ -90,7 +84,6 @@ fetch-fetch-requires : (t : ℕ) → fetch-lts.Need-fetch-requires (
 ) (fetch-at t) fetch.Post
 fetch-fetch-requires t c κs = search needs
 
--- src/lib.rt:43:9
 fetch-returns-2 : (t : ℕ) → fetch-lts.Need-returns-2 (
   pieces-at-reads.Asked,
   pieces-at-reads.Learnt,
@@ -101,7 +94,6 @@ fetch-returns-2 : (t : ℕ) → fetch-lts.Need-returns-2 (
 ) (fetch-at t) fetch.Post
 fetch-returns-2 t c = fetch-next _ _ _ _ _ (c .before .before .pieces-at .ensures .0 ∙ sym (length-split _ _ _ _ _)) _ (c .before .before .before .if1 .taken) (c .before .if2 .left) (c .fetch .ensures)
 
--- src/lib.rt:34:1
 fetch-returns-3 : (t : ℕ) → fetch-lts.Need-returns-3 (
   pieces-at-reads.Asked,
   pieces-at-reads.Learnt,

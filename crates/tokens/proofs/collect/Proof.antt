@@ -8,9 +8,6 @@ use Prim.Native.Nat.{_-_, _≤_}
 use borrow.Author.Needs.{needs}
 use Rattle.tokens.proofs.collect.Statement.{statement}
 use Rattle.tokens.proofs.collect.Tie as tie
-use Rattle.tokens.proofs.collect.Reads as reads
-use Rattle.tokens.proofs.collect.Lts as lts
-use Rattle.tokens.proofs.fetch.Reads as fetch-reads
 
 abbrev Inv-loop : tie.InvT-loop
 Inv-loop khmer scalars kinds breaks categories emojis selectors decomposes firsts counts pscalars pbreaks puses pcategories out₀ filled₀ i₀ k₀ out filled i k = (length out ≡ length out₀) × ((filled ≤ length out) × (take filled out ++ rest (split khmer (record { scalars = scalars; kinds = kinds; breaks = breaks; categories = categories; emojis = emojis; selectors = selectors }) (record { decomposes = decomposes; firsts = firsts; counts = counts }) (record { pscalars = pscalars; pbreaks = pbreaks; puses = puses; pcategories = pcategories })) (length scalars) i k ≡ gather (split khmer (record { scalars = scalars; kinds = kinds; breaks = breaks; categories = categories; emojis = emojis; selectors = selectors }) (record { decomposes = decomposes; firsts = firsts; counts = counts }) (record { pscalars = pscalars; pbreaks = pbreaks; puses = puses; pcategories = pcategories })) 0 (length scalars)))
@@ -18,55 +15,42 @@ Inv-loop khmer scalars kinds breaks categories emojis selectors decomposes first
 abbrev μ-loop : tie.MeasureT-loop
 μ-loop khmer scalars kinds breaks categories emojis selectors decomposes firsts counts pscalars pbreaks puses pcategories out₀ filled₀ i₀ k₀ out filled i k = length out - filled
 
--- src/lib.rt:55:5
 loop-holds : tie.Need-loop-holds Inv-loop μ-loop
 loop-holds c = (refl, (omega arith, sym (rest-all _ _)))
 
--- src/lib.rt:56:13
 fetch-requires : tie.Need-fetch-requires Inv-loop μ-loop
 fetch-requires c κs = search needs
 
--- src/lib.rt:58:28
 enum-known-f : tie.Need-enum-known-f Inv-loop μ-loop
 enum-known-f c = search needs
 
--- src/lib.rt:59:17
 mul-out : tie.Need-mul-out Inv-loop μ-loop
 mul-out c = omega (arith, c .before .before .before .before .before .before .before .before .before .before .before .before .before .before .before .before .before .before .before .before .good .1 .1 .1 .1 .1 .1 .1 .1 .1 .1 .1 .1 .1 .1 .0)
 
--- src/lib.rt:59:17
 slice-write-out : tie.Need-slice-write-out Inv-loop μ-loop
 slice-write-out c = search needs
 
--- src/lib.rt:60:17
 add-filled : tie.Need-add-filled Inv-loop μ-loop
 add-filled c = omega (arith, c .before .before .before .before .before .before .before .before .before .before .before .before .before .before .before .before .before .before .before .before .good .1 .1 .1 .1 .1 .1 .1 .1 .1 .1 .1 .1 .1 .1 .0)
 
--- src/lib.rt:55:5
 loop-less : tie.Need-loop-less Inv-loop μ-loop
 loop-less c = simp length-set (omega arith)
 
--- src/lib.rt:55:5
 loop-again : tie.Need-loop-again Inv-loop μ-loop
 loop-again c = (simp length-set (search needs), (simp length-set (omega arith), collect-more _ _ _ _ _ _ _ _ _ (c .before .before .before .before .before .loop .inv .1 .1) (c .before .before .before .before .loop-test .taken) (sym (c .before .f .given .1) ∙ c .before .before .before .fetch .ensures)))
 
--- src/lib.rt:65:17
 enum-told : tie.Need-enum-told Inv-loop μ-loop
 enum-told c = search needs
 
--- src/lib.rt:65:17
 same-length : tie.Need-same-length Inv-loop μ-loop
 same-length c = search needs
 
--- src/lib.rt:65:17
 returns : tie.Need-returns Inv-loop μ-loop
 returns c = all-gathered _ _ _ _ _ (c .before .before .before .before .loop .inv .0) (c .before .before .before .before .loop .inv .1 .1) (c .before .before .before .before .loop .inv .1 .0) (collect-over _ _ _ _ (sym (c .enum-told .given .1) ∙ c .before .before .fetch .ensures))
 
--- src/lib.rt:49:1
 same-length-2 : tie.Need-same-length-2 Inv-loop μ-loop
 same-length-2 c = search needs
 
--- src/lib.rt:49:1
 returns-2 : tie.Need-returns-2 Inv-loop μ-loop
 returns-2 c = no-more-room _ _ _ _ _ (c .before .loop .inv .0) (c .before .loop .inv .1 .1) (c .before .loop .inv .1 .0) (omega arith)
 

@@ -8,10 +8,6 @@ use Rattle.tokens.specs.Tokens.{countFrom}
 use borrow.Author.Needs.{needs}
 use Rattle.tokens.proofs.count.Statement.{statement}
 use Rattle.tokens.proofs.count.Tie as tie
-use Rattle.tokens.proofs.count.Reads as reads
-use Rattle.tokens.proofs.count.Lts as lts
-use Rattle.tokens.proofs.at_most.Reads as at-most-reads
-use Rattle.tokens.proofs.pieces.pieces_at.Reads as pieces-at-reads
 
 abbrev Inv-loop : tie.InvT-loop
 Inv-loop khmer scalars decomposes counts n sum₀ i₀ sum i = (n ≤ 4096) × ((i ≤ n) × ((sum ≤ 256 * i) × (sum + countFrom khmer scalars decomposes counts i (n - i) ≡ countFrom khmer scalars decomposes counts 0 n)))
@@ -19,35 +15,27 @@ Inv-loop khmer scalars decomposes counts n sum₀ i₀ sum i = (n ≤ 4096) × (
 abbrev μ-loop : tie.MeasureT-loop
 μ-loop khmer scalars decomposes counts n sum₀ i₀ sum i = n - i
 
--- src/lib.rt:78:9
 at-most-requires : tie.Need-at-most-requires Inv-loop μ-loop
 at-most-requires c κs = search needs
 
--- src/lib.rt:81:5
 loop-holds : tie.Need-loop-holds Inv-loop μ-loop
 loop-holds c = (omega arith, (omega arith, (omega arith, rw (sub-zero, zero-add))))
 
--- src/lib.rt:82:16
 pieces-at-requires : tie.Need-pieces-at-requires Inv-loop μ-loop
 pieces-at-requires c κs = search needs
 
--- src/lib.rt:82:9
 add-sum : tie.Need-add-sum Inv-loop μ-loop
 add-sum c = omega (arith, c .pieces-at .ensures .1)
 
--- src/lib.rt:83:9
 add-i : tie.Need-add-i Inv-loop μ-loop
 add-i c = search needs
 
--- src/lib.rt:81:5
 loop-less : tie.Need-loop-less Inv-loop μ-loop
 loop-less c = search needs
 
--- src/lib.rt:81:5
 loop-again : tie.Need-loop-again Inv-loop μ-loop
 loop-again c = (omega arith, (omega arith, (omega (arith, c .pieces-at .ensures .1), count-more _ _ _ _ _ _ _ _ (c .before .before .loop .inv .1 .1 .1) (c .before .loop-test .taken) (c .pieces-at .ensures .0))))
 
--- src/lib.rt:75:1
 returns : tie.Need-returns Inv-loop μ-loop
 returns c = count-all _ _ _ _ _ _ _ (c .before .loop .inv .1 .1 .1) (c .loop-test .left) ∙ ap (countFrom _ _ _ _ 0) (c .before .before .at-most .ensures)
 

@@ -8,10 +8,6 @@ use native.Mathlib.Omega.{arith}
 use borrow.Author.Needs.{needs}
 use Rattle.tokens.proofs.fill.Statement.{statement}
 use Rattle.tokens.proofs.fill.Tie as tie
-use Rattle.tokens.proofs.fill.Reads as reads
-use Rattle.tokens.proofs.fill.Lts as lts
-use Rattle.records.proofs.cells.cell8.Reads as cell8-reads
-use Rattle.tokens.proofs.pieces.own_token.Reads as own-token-reads
 
 abbrev Inv-loop : tie.InvT-loop
 Inv-loop scalars kinds breaks categories emojis selectors out₀ i₀ out i = (length out ≡ length out₀) × ((i ≤ length out) × ((i ≤ length scalars) × (take i out ++ rest (itself (record { scalars = scalars; kinds = kinds; breaks = breaks; categories = categories; emojis = emojis; selectors = selectors })) (length scalars) i 0 ≡ gather (itself (record { scalars = scalars; kinds = kinds; breaks = breaks; categories = categories; emojis = emojis; selectors = selectors })) 0 (length scalars))))
@@ -19,51 +15,39 @@ Inv-loop scalars kinds breaks categories emojis selectors out₀ i₀ out i = (l
 abbrev μ-loop : tie.MeasureT-loop
 μ-loop scalars kinds breaks categories emojis selectors out₀ i₀ out i = length scalars - i
 
--- src/lib.rt:23:5
 loop-holds : tie.Need-loop-holds Inv-loop μ-loop
 loop-holds c = (refl, (omega arith, (omega arith, sym (rest-all _ _))))
 
--- src/lib.rt:25:13
 same-length : tie.Need-same-length Inv-loop μ-loop
 same-length c = search needs
 
--- src/lib.rt:25:13
 returns : tie.Need-returns Inv-loop μ-loop
 returns c = fill-full _ _ _ _ _ (c .before .before .loop .inv .0) (c .before .before .loop .inv .1 .0) (c .before .before .loop .inv .1 .1 .1) (c .if1 .taken)
 
--- src/lib.rt:27:75
 cell8-requires : tie.Need-cell8-requires Inv-loop μ-loop
 cell8-requires c κs = search needs
 
--- src/lib.rt:27:18
 own-token-requires : tie.Need-own-token-requires Inv-loop μ-loop
 own-token-requires c κs = search needs
 
--- src/lib.rt:27:9
 mul-out : tie.Need-mul-out Inv-loop μ-loop
 mul-out c = search needs
 
--- src/lib.rt:27:9
 slice-write-out : tie.Need-slice-write-out Inv-loop μ-loop
 slice-write-out c = search needs
 
--- src/lib.rt:28:9
 add-i : tie.Need-add-i Inv-loop μ-loop
 add-i c = search needs
 
--- src/lib.rt:23:5
 loop-less : tie.Need-loop-less Inv-loop μ-loop
 loop-less c = search needs
 
--- src/lib.rt:23:5
 loop-again : tie.Need-loop-again Inv-loop μ-loop
 loop-again c = (simp length-set (search needs), (simp length-set (omega arith), (omega arith, fill-more _ _ _ _ _ (c .before .before .before .before .loop .inv .1 .1 .1) (c .before .before .before .loop-test .taken) (c .before .before .if1 .left) (c .own-token .ensures ∙ simp (c .before .cell8 .ensures)))))
 
--- src/lib.rt:19:1
 same-length-2 : tie.Need-same-length-2 Inv-loop μ-loop
 same-length-2 c = search needs
 
--- src/lib.rt:19:1
 returns-2 : tie.Need-returns-2 Inv-loop μ-loop
 returns-2 c = fill-over _ _ _ _ _ (c .before .loop .inv .0) (c .before .loop .inv .1 .0) (c .before .loop .inv .1 .1 .1) (c .loop-test .left)
 

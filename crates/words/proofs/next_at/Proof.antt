@@ -3,18 +3,13 @@ use borrow.Author.Tests.{lt-ltb, le-ltb}
 use borrow.Author.Needs.{needs}
 use Rattle.words.proofs.next_at.Statement.{statement}
 use Rattle.words.proofs.next_at.Tie as tie
-use Rattle.words.proofs.next_at.Reads as reads
-use Rattle.words.proofs.next_at.Lts as lts
 
--- src/lib.rt:97:28
 shared-slice-read-t6 : tie.Need-shared-slice-read-t6
 shared-slice-read-t6 c = search needs
 
--- src/lib.rt:97:9
 returns : tie.Need-returns
 returns c = unfold nextAt in simp (lt-ltb _ _ (c .before .if1 .taken))
 
--- src/lib.rt:93:1
 returns-2 : tie.Need-returns-2
 returns-2 c = unfold nextAt in simp (le-ltb _ _ (c .if1 .left))
 

@@ -7,12 +7,6 @@ use Rattle.words.proofs.Answers.{Cells, turn-state, turn-cells}
 use borrow.Author.Needs.{needs}
 use Rattle.words.proofs.write_answers.Statement.{statement}
 use Rattle.words.proofs.write_answers.Tie as tie
-use Rattle.words.proofs.write_answers.Reads as reads
-use Rattle.words.proofs.write_answers.Lts as lts
-use Rattle.records.proofs.cells.cell8.Reads as cell8-reads
-use Rattle.words.proofs.WordState.rule.Reads as rule-reads
-use Rattle.words.proofs.WordState.start.Reads as start-reads
-use Rattle.words.proofs.next_at.Reads as next-at-reads
 
 abbrev Inv-loop : tie.InvT-loop
 Inv-loop words pictographs out₀ state₀ i₀ out state i =
@@ -21,56 +15,43 @@ Inv-loop words pictographs out₀ state₀ i₀ out state i =
 abbrev μ-loop : tie.MeasureT-loop
 μ-loop words pictographs out₀ state₀ i₀ out state i = length words - i
 
--- src/lib.rt:107:9
 start-requires : tie.Need-start-requires Inv-loop μ-loop
 start-requires c κs = search needs
 
--- src/lib.rt:109:5
 loop-holds : tie.Need-loop-holds Inv-loop μ-loop
 loop-holds c = unfold stateAt answers in (search needs, (refl, (c .start .ensures, refl)))
 
--- src/lib.rt:110:35
 add-next-at : tie.Need-add-next-at Inv-loop μ-loop
 add-next-at c = search needs
 
--- src/lib.rt:110:13
 next-at-requires : tie.Need-next-at-requires Inv-loop μ-loop
 next-at-requires c κs = search needs
 
--- src/lib.rt:111:31
 cell8-requires : tie.Need-cell8-requires Inv-loop μ-loop
 cell8-requires c κs = search needs
 
--- src/lib.rt:111:48
 cell8-requires-2 : tie.Need-cell8-requires-2 Inv-loop μ-loop
 cell8-requires-2 c κs = search needs
 
--- src/lib.rt:111:13
 rule-requires : tie.Need-rule-requires Inv-loop μ-loop
 rule-requires c κs = search needs
 
--- src/lib.rt:113:9
 slice-write-out : tie.Need-slice-write-out Inv-loop μ-loop
 slice-write-out c = search needs
 
--- src/lib.rt:114:9
 add-i : tie.Need-add-i Inv-loop μ-loop
 add-i c = search needs
 
--- src/lib.rt:109:5
 loop-less : tie.Need-loop-less Inv-loop μ-loop
 loop-less c = search needs
 
--- src/lib.rt:109:5
 loop-again : tie.Need-loop-again Inv-loop μ-loop
 loop-again c =
     (search needs, (search needs, (search turn-state, turn-cells _ _ _ _ (c .before .before .before .before .before .before .loop .inv .1 .1 .0) _ _ _ _ (c .before .before .before .cell8 .ensures) (c .before .before .cell82 .ensures) (c .before .before .before .before .next-at .ensures) (c .before .rule .ensures) _ _ (omega arith) (c .before .before .before .before .before .before .loop .inv .1 .1 .1))))
 
--- src/lib.rt:103:1
 same-length : tie.Need-same-length Inv-loop μ-loop
 same-length c = search needs
 
--- src/lib.rt:103:1
 returns : tie.Need-returns Inv-loop μ-loop
 returns c = let e : c .before .loop .i ≡ length (c .before .before .before .before .before .before .args .words .now) = omega arith in rw (← e) (c .before .loop .inv .1 .1 .1)
 

@@ -2,10 +2,6 @@ use Prim.Native.Nat.{_-_}
 use borrow.Author.Needs.{needs}
 use Rattle.edges.proofs.texts.code_edges.Statement.{statement}
 use Rattle.edges.proofs.texts.code_edges.Tie as tie
-use Rattle.edges.proofs.texts.code_edges.Reads as reads
-use Rattle.edges.proofs.texts.code_edges.Lts as lts
-use Rattle.edges.proofs.texts.before.Reads as before-reads
-use Rattle.edges.proofs.texts.single.Reads as single-reads
 
 abbrev Inv-loop : tie.InvT-loop
 Inv-loop column len index₀ index = Unit
@@ -13,43 +9,33 @@ Inv-loop column len index₀ index = Unit
 abbrev μ-loop : tie.MeasureT-loop
 μ-loop column len index₀ index = 2 - index
 
--- src/texts.rt:176:5
 loop-holds : tie.Need-loop-holds Inv-loop μ-loop
 loop-holds c = tt
 
--- src/texts.rt:177:9
 single-requires : tie.Need-single-requires Inv-loop μ-loop
 single-requires c κs = search needs
 
--- src/texts.rt:178:31
 before-requires : tie.Need-before-requires Inv-loop μ-loop
 before-requires c κs = search needs
 
--- src/texts.rt:178:9
 single-requires-2 : tie.Need-single-requires-2 Inv-loop μ-loop
 single-requires-2 c κs = search needs
 
--- src/texts.rt:179:9
 single-requires-3 : tie.Need-single-requires-3 Inv-loop μ-loop
 single-requires-3 c κs = search needs
 
--- src/texts.rt:180:9
 single-requires-4 : tie.Need-single-requires-4 Inv-loop μ-loop
 single-requires-4 c κs = search needs
 
--- src/texts.rt:176:9
 add-index : tie.Need-add-index Inv-loop μ-loop
 add-index c = search needs
 
--- src/texts.rt:176:5
 loop-less : tie.Need-loop-less Inv-loop μ-loop
 loop-less c = search needs
 
--- src/texts.rt:176:5
 loop-again : tie.Need-loop-again Inv-loop μ-loop
 loop-again c = tt
 
--- src/texts.rt:175:1
 returns : tie.Need-returns Inv-loop μ-loop
 returns c = tt
 

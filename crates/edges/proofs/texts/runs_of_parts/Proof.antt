@@ -2,9 +2,6 @@ use Prim.Native.Nat.{_-_}
 use borrow.Author.Needs.{needs}
 use Rattle.edges.proofs.texts.runs_of_parts.Statement.{statement}
 use Rattle.edges.proofs.texts.runs_of_parts.Tie as tie
-use Rattle.edges.proofs.texts.runs_of_parts.Reads as reads
-use Rattle.edges.proofs.texts.runs_of_parts.Lts as lts
-use Rattle.edges.proofs.texts.run_of_parts.Reads as run-of-parts-reads
 
 abbrev Inv-loop : tie.InvT-loop
 Inv-loop count₀ count = Unit
@@ -12,47 +9,36 @@ Inv-loop count₀ count = Unit
 abbrev μ-loop : tie.MeasureT-loop
 μ-loop count₀ count = 5 - count
 
--- src/texts.rt:184:5
 loop-holds : tie.Need-loop-holds Inv-loop μ-loop
 loop-holds c = tt
 
--- src/texts.rt:185:9
 run-of-parts-requires : tie.Need-run-of-parts-requires Inv-loop μ-loop
 run-of-parts-requires c κs = search needs
 
--- src/texts.rt:186:9
 run-of-parts-requires-2 : tie.Need-run-of-parts-requires-2 Inv-loop μ-loop
 run-of-parts-requires-2 c κs = search needs
 
--- src/texts.rt:187:9
 run-of-parts-requires-3 : tie.Need-run-of-parts-requires-3 Inv-loop μ-loop
 run-of-parts-requires-3 c κs = search needs
 
--- src/texts.rt:188:9
 run-of-parts-requires-4 : tie.Need-run-of-parts-requires-4 Inv-loop μ-loop
 run-of-parts-requires-4 c κs = search needs
 
--- src/texts.rt:189:9
 run-of-parts-requires-5 : tie.Need-run-of-parts-requires-5 Inv-loop μ-loop
 run-of-parts-requires-5 c κs = search needs
 
--- src/texts.rt:184:9
 add-count : tie.Need-add-count Inv-loop μ-loop
 add-count c = search needs
 
--- src/texts.rt:184:5
 loop-less : tie.Need-loop-less Inv-loop μ-loop
 loop-less c = search needs
 
--- src/texts.rt:184:5
 loop-again : tie.Need-loop-again Inv-loop μ-loop
 loop-again c = tt
 
--- src/texts.rt:191:5
 run-of-parts-requires-6 : tie.Need-run-of-parts-requires-6 Inv-loop μ-loop
 run-of-parts-requires-6 c κs = search needs
 
--- src/texts.rt:183:1
 returns : tie.Need-returns Inv-loop μ-loop
 returns c = tt
 

@@ -2,16 +2,6 @@ use Prim.Native.Nat.{_-_}
 use borrow.Author.Needs.{needs}
 use Rattle.edges.proofs.texts.single.Statement.{statement}
 use Rattle.edges.proofs.texts.single.Tie as tie
-use Rattle.edges.proofs.texts.single.Reads as reads
-use Rattle.edges.proofs.texts.single.Lts as lts
-use Rattle.edges.proofs.texts.at.Reads as at-reads
-use Rattle.edges.proofs.texts.check.Reads as check-reads
-use Rattle.edges.proofs.texts.one.Reads as one-reads
-use Rattle.edges.proofs.verdicts.decimal.Reads as decimal-reads
-use Rattle.edges.proofs.verdicts.hex.Reads as hex-reads
-use Rattle.edges.proofs.verdicts.parser.Reads as parser-reads
-use Rattle.edges.proofs.verdicts.verdict.Reads as verdict-reads
-use Rattle.edges.proofs.verdicts.write.Reads as write-reads
 
 abbrev Inv-loop : tie.InvT-loop
 Inv-loop column index value k₀ t7 k = Unit
@@ -19,79 +9,60 @@ Inv-loop column index value k₀ t7 k = Unit
 abbrev μ-loop : tie.MeasureT-loop
 μ-loop column index value k₀ t7 k = 4 - k
 
--- src/texts.rt:118:5
 decimal-requires : tie.Need-decimal-requires Inv-loop μ-loop
 decimal-requires c κs = search needs
 
--- src/texts.rt:119:11
 slice-aggregate-write : tie.Need-slice-aggregate-write Inv-loop μ-loop
 slice-aggregate-write c = search needs
 
--- src/texts.rt:119:5
 write-requires : tie.Need-write-requires Inv-loop μ-loop
 write-requires c κs = search needs
 
--- src/texts.rt:120:5
 decimal-requires-2 : tie.Need-decimal-requires-2 Inv-loop μ-loop
 decimal-requires-2 c κs = search needs
 
--- src/texts.rt:121:11
 slice-aggregate-write-2 : tie.Need-slice-aggregate-write-2 Inv-loop μ-loop
 slice-aggregate-write-2 c = search needs
 
--- src/texts.rt:121:5
 write-requires-2 : tie.Need-write-requires-2 Inv-loop μ-loop
 write-requires-2 c κs = search needs
 
--- src/texts.rt:122:5
 hex-requires : tie.Need-hex-requires Inv-loop μ-loop
 hex-requires c κs = search needs
 
--- src/texts.rt:123:5
 loop-holds : tie.Need-loop-holds Inv-loop μ-loop
 loop-holds c = tt
 
--- src/texts.rt:124:33
 parser-requires : tie.Need-parser-requires Inv-loop μ-loop
 parser-requires c κs = search needs
 
--- src/texts.rt:124:58
 at-requires : tie.Need-at-requires Inv-loop μ-loop
 at-requires c κs = search needs
 
--- src/texts.rt:124:54
 one-requires : tie.Need-one-requires Inv-loop μ-loop
 one-requires c κs = search needs
 
--- src/texts.rt:124:27
 check-requires : tie.Need-check-requires Inv-loop μ-loop
 check-requires c κs = search needs
 
--- src/texts.rt:124:9
 verdict-requires : tie.Need-verdict-requires Inv-loop μ-loop
 verdict-requires c κs = search needs
 
--- src/texts.rt:123:9
 add-k : tie.Need-add-k Inv-loop μ-loop
 add-k c = search needs
 
--- src/texts.rt:123:5
 loop-less : tie.Need-loop-less Inv-loop μ-loop
 loop-less c = search needs
 
--- src/texts.rt:123:5
 loop-again : tie.Need-loop-again Inv-loop μ-loop
 loop-again c = tt
 
--- src/texts.rt:126:11
 slice-aggregate-write-3 : tie.Need-slice-aggregate-write-3 Inv-loop μ-loop
 slice-aggregate-write-3 c = search needs
 
--- src/texts.rt:126:5
 write-requires-3 : tie.Need-write-requires-3 Inv-loop μ-loop
 write-requires-3 c κs = search needs
 
--- src/texts.rt:117:1
 returns : tie.Need-returns Inv-loop μ-loop
 returns c = tt
 

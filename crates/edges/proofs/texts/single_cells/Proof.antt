@@ -2,11 +2,6 @@ use Prim.Native.Nat.{_-_}
 use borrow.Author.Needs.{needs}
 use Rattle.edges.proofs.texts.single_cells.Statement.{statement}
 use Rattle.edges.proofs.texts.single_cells.Tie as tie
-use Rattle.edges.proofs.texts.single_cells.Reads as reads
-use Rattle.edges.proofs.texts.single_cells.Lts as lts
-use Rattle.edges.proofs.texts.code_edges.Reads as code-edges-reads
-use Rattle.edges.proofs.texts.mark_edges.Reads as mark-edges-reads
-use Rattle.edges.proofs.texts.scalar_edges.Reads as scalar-edges-reads
 
 abbrev Inv-loop : tie.InvT-loop
 Inv-loop column₀ column = Unit
@@ -14,67 +9,51 @@ Inv-loop column₀ column = Unit
 abbrev μ-loop : tie.MeasureT-loop
 μ-loop column₀ column = 12 - column
 
--- src/texts.rt:204:5
 scalar-edges-requires : tie.Need-scalar-edges-requires Inv-loop μ-loop
 scalar-edges-requires c κs = search needs
 
--- src/texts.rt:205:5
 code-edges-requires : tie.Need-code-edges-requires Inv-loop μ-loop
 code-edges-requires c κs = search needs
 
--- src/texts.rt:206:5
 code-edges-requires-2 : tie.Need-code-edges-requires-2 Inv-loop μ-loop
 code-edges-requires-2 c κs = search needs
 
--- src/texts.rt:207:5
 code-edges-requires-3 : tie.Need-code-edges-requires-3 Inv-loop μ-loop
 code-edges-requires-3 c κs = search needs
 
--- src/texts.rt:208:5
 code-edges-requires-4 : tie.Need-code-edges-requires-4 Inv-loop μ-loop
 code-edges-requires-4 c κs = search needs
 
--- src/texts.rt:209:5
 code-edges-requires-5 : tie.Need-code-edges-requires-5 Inv-loop μ-loop
 code-edges-requires-5 c κs = search needs
 
--- src/texts.rt:210:5
 loop-holds : tie.Need-loop-holds Inv-loop μ-loop
 loop-holds c = tt
 
--- src/texts.rt:211:9
 mark-edges-requires : tie.Need-mark-edges-requires Inv-loop μ-loop
 mark-edges-requires c κs = search needs
 
--- src/texts.rt:210:9
 add-column : tie.Need-add-column Inv-loop μ-loop
 add-column c = search needs
 
--- src/texts.rt:210:5
 loop-less : tie.Need-loop-less Inv-loop μ-loop
 loop-less c = search needs
 
--- src/texts.rt:210:5
 loop-again : tie.Need-loop-again Inv-loop μ-loop
 loop-again c = tt
 
--- src/texts.rt:213:5
 scalar-edges-requires-2 : tie.Need-scalar-edges-requires-2 Inv-loop μ-loop
 scalar-edges-requires-2 c κs = search needs
 
--- src/texts.rt:214:5
 code-edges-requires-6 : tie.Need-code-edges-requires-6 Inv-loop μ-loop
 code-edges-requires-6 c κs = search needs
 
--- src/texts.rt:215:5
 code-edges-requires-7 : tie.Need-code-edges-requires-7 Inv-loop μ-loop
 code-edges-requires-7 c κs = search needs
 
--- src/texts.rt:216:5
 code-edges-requires-8 : tie.Need-code-edges-requires-8 Inv-loop μ-loop
 code-edges-requires-8 c κs = search needs
 
--- src/texts.rt:203:1
 returns : tie.Need-returns Inv-loop μ-loop
 returns c = tt
 

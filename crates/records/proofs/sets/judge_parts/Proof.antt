@@ -6,9 +6,6 @@ use Prim.Native.Nat.{_-_}
 use borrow.Author.Needs.{needs}
 use Rattle.records.proofs.sets.judge_parts.Statement.{statement}
 use Rattle.records.proofs.sets.judge_parts.Tie as tie
-use Rattle.records.proofs.sets.judge_parts.Reads as reads
-use Rattle.records.proofs.sets.judge_parts.Lts as lts
-use Rattle.records.proofs.sets.judge_part_at.Reads as judge-part-at-reads
 
 abbrev Inv-loop : tie.InvT-loop
 Inv-loop parser pscalars pbreaks puses pcategories i₀ i = Rest (λ k. judgePart parser (partOf (record { pscalars = pscalars; pbreaks = pbreaks; puses = puses; pcategories = pcategories }) k) k) (length pscalars) i
@@ -16,38 +13,30 @@ Inv-loop parser pscalars pbreaks puses pcategories i₀ i = Rest (λ k. judgePar
 abbrev μ-loop : tie.MeasureT-loop
 μ-loop parser pscalars pbreaks puses pcategories i₀ i = length pscalars - i
 
--- src/sets.rt:69:5
 loop-holds : tie.Need-loop-holds Inv-loop μ-loop
 loop-holds c = search rests
 
--- src/sets.rt:70:13
 judge-part-at-requires : tie.Need-judge-part-at-requires Inv-loop μ-loop
 judge-part-at-requires c κs = search needs
 
 enum-told : tie.Need-enum-told Inv-loop μ-loop
 enum-told c = search needs
 
--- src/sets.rt:72:13
 enum-told-2 : tie.Need-enum-told-2 Inv-loop μ-loop
 enum-told-2 c = search needs
 
--- src/sets.rt:72:13
 returns : tie.Need-returns Inv-loop μ-loop
 returns c = unfold judgeParts in search rests
 
--- src/sets.rt:74:9
 add-i : tie.Need-add-i Inv-loop μ-loop
 add-i c = search needs
 
--- src/sets.rt:69:5
 loop-less : tie.Need-loop-less Inv-loop μ-loop
 loop-less c = search needs
 
--- src/sets.rt:69:5
 loop-again : tie.Need-loop-again Inv-loop μ-loop
 loop-again c = search rests
 
--- src/sets.rt:65:1
 returns-2 : tie.Need-returns-2 Inv-loop μ-loop
 returns-2 c = unfold judgeParts in search rests
 

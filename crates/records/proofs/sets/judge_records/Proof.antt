@@ -7,9 +7,6 @@ use Prim.Native.Nat.{_-_}
 use borrow.Author.Needs.{needs}
 use Rattle.records.proofs.sets.judge_records.Statement.{statement}
 use Rattle.records.proofs.sets.judge_records.Tie as tie
-use Rattle.records.proofs.sets.judge_records.Reads as reads
-use Rattle.records.proofs.sets.judge_records.Lts as lts
-use Rattle.records.proofs.sets.judge_record_at.Reads as judge-record-at-reads
 
 abbrev Inv-loop : tie.InvT-loop
 Inv-loop parser scalars breaks uses myanmars categories words semojis memojis cemojis pictographs selectors decomposes firsts counts parts i₀ i =
@@ -19,38 +16,30 @@ abbrev μ-loop : tie.MeasureT-loop
 μ-loop parser scalars breaks uses myanmars categories words semojis memojis cemojis pictographs selectors decomposes firsts counts parts i₀ i =
     length scalars - i
 
--- src/sets.rt:89:5
 loop-holds : tie.Need-loop-holds Inv-loop μ-loop
 loop-holds c = search rests
 
--- src/sets.rt:90:13
 judge-record-at-requires : tie.Need-judge-record-at-requires Inv-loop μ-loop
 judge-record-at-requires c κs = search needs
 
 enum-told : tie.Need-enum-told Inv-loop μ-loop
 enum-told c = search needs
 
--- src/sets.rt:92:13
 enum-told-2 : tie.Need-enum-told-2 Inv-loop μ-loop
 enum-told-2 c = search needs
 
--- src/sets.rt:92:13
 returns : tie.Need-returns Inv-loop μ-loop
 returns c = unfold judgeRecords in search rests
 
--- src/sets.rt:94:9
 add-i : tie.Need-add-i Inv-loop μ-loop
 add-i c = omega (arith, c .before .before .before .before .before .before .before .before .before .before .before .before .before .before .before .before .before .before .before .good .1 .0)
 
--- src/sets.rt:89:5
 loop-less : tie.Need-loop-less Inv-loop μ-loop
 loop-less c = search needs
 
--- src/sets.rt:89:5
 loop-again : tie.Need-loop-again Inv-loop μ-loop
 loop-again c = rest-next _ _ _ (c .before .before .before .before .loop .inv) _ (c .before .before .judge-record-at .ensures) (c .before .before .before .loop-test .taken) (c .enum-told .given .1)
 
--- src/sets.rt:85:1
 returns-2 : tie.Need-returns-2 Inv-loop μ-loop
 returns-2 c = unfold judgeRecords in search rests
 

@@ -2,42 +2,28 @@ use mathlib.Core.Path.{_∙_}
 use borrow.Author.Needs.{needs}
 use Rattle.records.proofs.sets.judge_sign_at.Statement.{statement}
 use Rattle.records.proofs.sets.judge_sign_at.Tie as tie
-use Rattle.records.proofs.sets.judge_sign_at.Reads as reads
-use Rattle.records.proofs.sets.judge_sign_at.Lts as lts
-use Rattle.records.proofs.cells.cell16.Reads as cell16-reads
-use Rattle.records.proofs.cells.cell32.Reads as cell32-reads
-use Rattle.records.proofs.cells.cell8.Reads as cell8-reads
-use Rattle.records.proofs.judge.judge_sign.Reads as judge-sign-reads
 
--- src/sets.rt:102:17
 cell16-requires : tie.Need-cell16-requires
 cell16-requires c κs = search needs
 
--- src/sets.rt:102:17
 cast-first : tie.Need-cast-first
 cast-first c = search needs
 
--- src/sets.rt:103:16
 cell8-requires : tie.Need-cell8-requires
 cell8-requires c κs = search needs
 
--- src/sets.rt:103:38
 cell32-requires : tie.Need-cell32-requires
 cell32-requires c κs = search needs
 
--- src/sets.rt:103:58
 cell8-requires-2 : tie.Need-cell8-requires-2
 cell8-requires-2 c κs = search needs
 
--- src/sets.rt:103:76
 cell32-requires-2 : tie.Need-cell32-requires-2
 cell32-requires-2 c κs = search needs
 
--- src/sets.rt:103:5
 judge-sign-requires : tie.Need-judge-sign-requires
 judge-sign-requires c κs = search needs
 
--- src/sets.rt:99:1
 returns : tie.Need-returns
 returns c = c .judge-sign .ensures ∙ simp (c .before .cell322 .ensures, c .before .before .cell82 .ensures, c .before .before .before .cell32 .ensures, c .before .before .before .before .cell8 .ensures, c .before .before .before .before .before .cell16 .ensures)
 

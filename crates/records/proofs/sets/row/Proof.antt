@@ -1,69 +1,49 @@
 use borrow.Author.Needs.{needs}
 use Rattle.records.proofs.sets.row.Statement.{statement}
 use Rattle.records.proofs.sets.row.Tie as tie
-use Rattle.records.proofs.sets.row.Reads as reads
-use Rattle.records.proofs.sets.row.Lts as lts
-use Rattle.records.proofs.cells.cell16.Reads as cell16-reads
-use Rattle.records.proofs.cells.cell32.Reads as cell32-reads
-use Rattle.records.proofs.cells.cell8.Reads as cell8-reads
 
--- src/sets.rt:42:17
 cell32-requires : tie.Need-cell32-requires
 cell32-requires c κs = search needs
 
--- src/sets.rt:43:14
 cell8-requires : tie.Need-cell8-requires
 cell8-requires c κs = search needs
 
--- src/sets.rt:44:17
 cell8-requires-2 : tie.Need-cell8-requires-2
 cell8-requires-2 c κs = search needs
 
--- src/sets.rt:45:17
 cell8-requires-3 : tie.Need-cell8-requires-3
 cell8-requires-3 c κs = search needs
 
--- src/sets.rt:46:19
 cell8-requires-4 : tie.Need-cell8-requires-4
 cell8-requires-4 c κs = search needs
 
--- src/sets.rt:47:15
 cell8-requires-5 : tie.Need-cell8-requires-5
 cell8-requires-5 c κs = search needs
 
--- src/sets.rt:48:17
 cell8-requires-6 : tie.Need-cell8-requires-6
 cell8-requires-6 c κs = search needs
 
--- src/sets.rt:49:17
 cell8-requires-7 : tie.Need-cell8-requires-7
 cell8-requires-7 c κs = search needs
 
--- src/sets.rt:50:17
 cell8-requires-8 : tie.Need-cell8-requires-8
 cell8-requires-8 c κs = search needs
 
--- src/sets.rt:51:21
 cell8-requires-9 : tie.Need-cell8-requires-9
 cell8-requires-9 c κs = search needs
 
--- src/sets.rt:52:19
 cell8-requires-10 : tie.Need-cell8-requires-10
 cell8-requires-10 c κs = search needs
 
--- src/sets.rt:53:20
 cell8-requires-11 : tie.Need-cell8-requires-11
 cell8-requires-11 c κs = search needs
 
--- src/sets.rt:54:16
 cell16-requires : tie.Need-cell16-requires
 cell16-requires c κs = search needs
 
--- src/sets.rt:55:16
 cell8-requires-12 : tie.Need-cell8-requires-12
 cell8-requires-12 c κs = search needs
 
--- src/sets.rt:22:1
 returns : tie.Need-returns
 returns c = simp (c .cell812 .ensures, c .before .cell16 .ensures, c .before .before .cell811 .ensures, c .before .before .before .cell810 .ensures, c .before .before .before .before .cell89 .ensures, c .before .before .before .before .before .cell88 .ensures, c .before .before .before .before .before .before .cell87 .ensures, c .before .before .before .before .before .before .before .cell86 .ensures, c .before .before .before .before .before .before .before .before .cell85 .ensures, c .before .before .before .before .before .before .before .before .before .cell84 .ensures, c .before .before .before .before .before .before .before .before .before .before .cell83 .ensures, c .before .before .before .before .before .before .before .before .before .before .before .cell82 .ensures, c .before .before .before .before .before .before .before .before .before .before .before .before .cell8 .ensures, c .before .before .before .before .before .before .before .before .before .before .before .before .before .cell32 .ensures)
 

@@ -3,37 +3,25 @@ use mathlib.Core.Path.{_∙_}
 use borrow.Author.Needs.{needs}
 use Rattle.tokens.proofs.pieces.part_token.Statement.{statement}
 use Rattle.tokens.proofs.pieces.part_token.Tie as tie
-use Rattle.tokens.proofs.pieces.part_token.Reads as reads
-use Rattle.tokens.proofs.pieces.part_token.Lts as lts
-use Rattle.records.proofs.cells.cell32.Reads as cell32-reads
-use Rattle.records.proofs.cells.cell8.Reads as cell8-reads
-use Rattle.token.proofs.pack.Reads as pack-reads
 
--- src/pieces.rt:48:9
 cell32-requires : tie.Need-cell32-requires
 cell32-requires c κs = search needs
 
--- src/pieces.rt:49:9
 cell8-requires : tie.Need-cell8-requires
 cell8-requires c κs = search needs
 
--- src/pieces.rt:50:9
 cell8-requires-2 : tie.Need-cell8-requires-2
 cell8-requires-2 c κs = search needs
 
--- src/pieces.rt:51:9
 cell8-requires-3 : tie.Need-cell8-requires-3
 cell8-requires-3 c κs = search needs
 
--- src/pieces.rt:54:9
 cast-pack : tie.Need-cast-pack
 cast-pack c = search needs
 
--- src/pieces.rt:47:5
 pack-requires : tie.Need-pack-requires
 pack-requires c κs = search needs
 
--- src/pieces.rt:44:1
 returns : tie.Need-returns
 returns c = c .pack .ensures ∙ simp (c .before .cell83 .ensures, c .before .before .cell82 .ensures, c .before .before .before .cell8 .ensures, c .before .before .before .before .cell32 .ensures, index-twice)
 

@@ -2,29 +2,19 @@ use mathlib.Core.Path.{_∙_}
 use borrow.Author.Needs.{needs}
 use Rattle.tokens.proofs.pieces.pieces_at.Statement.{statement}
 use Rattle.tokens.proofs.pieces.pieces_at.Tie as tie
-use Rattle.tokens.proofs.pieces.pieces_at.Reads as reads
-use Rattle.tokens.proofs.pieces.pieces_at.Lts as lts
-use Rattle.records.proofs.cells.cell32.Reads as cell32-reads
-use Rattle.records.proofs.cells.cell8.Reads as cell8-reads
-use Rattle.tokens.proofs.pieces.piece_count.Reads as piece-count-reads
 
--- src/pieces.rt:41:24
 cell8-requires : tie.Need-cell8-requires
 cell8-requires c κs = search needs
 
--- src/pieces.rt:41:46
 cell32-requires : tie.Need-cell32-requires
 cell32-requires c κs = search needs
 
--- src/pieces.rt:41:66
 cell8-requires-2 : tie.Need-cell8-requires-2
 cell8-requires-2 c κs = search needs
 
--- src/pieces.rt:41:5
 piece-count-requires : tie.Need-piece-count-requires
 piece-count-requires c κs = search needs
 
--- src/pieces.rt:38:1
 returns : tie.Need-returns
 returns c = (c .piece-count .ensures .0 ∙ simp (c .before .cell82 .ensures, c .before .before .cell32 .ensures, c .before .before .before .cell8 .ensures), c .piece-count .ensures .1)
 

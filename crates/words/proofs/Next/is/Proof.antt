@@ -3,22 +3,16 @@ use Rattle.words.proofs.Chain.{by-class}
 use borrow.Author.Needs.{needs}
 use Rattle.words.proofs.Next.is.Statement.{statement}
 use Rattle.words.proofs.Next.is.Tie as tie
-use Rattle.words.proofs.Next.is.Reads as reads
-use Rattle.words.proofs.Next.is.Lts as lts
 
--- src/sets.rt:103:25
 enum-known-self : tie.Need-enum-known-self
 enum-known-self c = search needs
 
--- src/sets.rt:104:26
 enum-told : tie.Need-enum-told
 enum-told c = search needs
 
--- src/sets.rt:99:5
 returns : tie.Need-returns
 returns c = search (by-class, or-only)
 
--- src/sets.rt:99:5
 returns-2 : tie.Need-returns-2
 returns-2 c = search needs
 

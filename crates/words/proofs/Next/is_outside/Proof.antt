@@ -2,26 +2,19 @@ use Rattle.words.proofs.Chain.{by-code}
 use borrow.Author.Needs.{needs}
 use Rattle.words.proofs.Next.is_outside.Statement.{statement}
 use Rattle.words.proofs.Next.is_outside.Tie as tie
-use Rattle.words.proofs.Next.is_outside.Reads as reads
-use Rattle.words.proofs.Next.is_outside.Lts as lts
 
--- src/judge.rt:38:25
 enum-known-self : tie.Need-enum-known-self
 enum-known-self c = search needs
 
--- src/judge.rt:38:35
 is-outside-requires : tie.Need-is-outside-requires
 is-outside-requires c κs = search needs
 
--- src/judge.rt:39:26
 enum-told : tie.Need-enum-told
 enum-told c = search needs
 
--- src/judge.rt:34:5
 returns : tie.Need-returns
 returns c = search by-code
 
--- src/judge.rt:34:5
 returns-2 : tie.Need-returns-2
 returns-2 c = search needs
 

@@ -4,23 +4,16 @@ use borrow.Author.Tests.{eq-eqb, ne-eqb}
 use borrow.Author.Needs.{needs}
 use Rattle.words.proofs.WordState.begun.Statement.{statement}
 use Rattle.words.proofs.WordState.begun.Tie as tie
-use Rattle.words.proofs.WordState.begun.Reads as reads
-use Rattle.words.proofs.WordState.begun.Lts as lts
-use Rattle.words.proofs.exits.told.Reads as told-reads
 
--- src/exits.rt:138:13
 told-requires : tie.Need-told-requires
 told-requires c κs = search needs
 
--- src/exits.rt:138:13
 returns : tie.Need-returns
 returns c = unfold leaves in c .told .ensures ∙ simp (eq-eqb _ _ (c .before .if1 .taken))
 
--- src/exits.rt:140:9
 told-requires-2 : tie.Need-told-requires-2
 told-requires-2 c κs = search needs
 
--- src/exits.rt:134:5
 returns-2 : tie.Need-returns-2
 returns-2 c = unfold leaves in c .told2 .ensures ∙ simp (ne-eqb _ _ (c .before .if1 .left))
 

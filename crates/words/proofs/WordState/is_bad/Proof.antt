@@ -2,18 +2,13 @@ use Rattle.records.proofs.Chain.{chains}
 use borrow.Author.Needs.{needs}
 use Rattle.words.proofs.WordState.is_bad.Statement.{statement}
 use Rattle.words.proofs.WordState.is_bad.Tie as tie
-use Rattle.words.proofs.WordState.is_bad.Reads as reads
-use Rattle.words.proofs.WordState.is_bad.Lts as lts
 
--- src/judge.rt:48:12
 is-outside-requires : tie.Need-is-outside-requires
 is-outside-requires c κs = search needs
 
--- src/judge.rt:49:13
 returns : tie.Need-returns
 returns c = search chains depth 12
 
--- src/judge.rt:45:5
 returns-2 : tie.Need-returns-2
 returns-2 c = search chains depth 12
 

@@ -3,30 +3,22 @@ use borrow.Author.Tests.{le-leb, lt-leb, eq-eqb, ne-eqb}
 use borrow.Author.Needs.{needs}
 use Rattle.words.proofs.exits.flag_exit.Statement.{statement}
 use Rattle.words.proofs.exits.flag_exit.Tie as tie
-use Rattle.words.proofs.exits.flag_exit.Reads as reads
-use Rattle.words.proofs.exits.flag_exit.Lts as lts
 
--- src/exits.rt:31:13
 returns : tie.Need-returns
 returns c = unfold flagRules in simp (le-leb _ _ (c .before .if1 .taken), eq-eqb _ _ (c .if2 .taken))
 
--- src/exits.rt:33:9
 returns-2 : tie.Need-returns-2
 returns-2 c = unfold flagRules in simp (le-leb _ _ (c .before .if1 .taken), ne-eqb _ _ (c .if2 .left))
 
--- src/exits.rt:37:33
 add-t7 : tie.Need-add-t7
 add-t7 c = search needs
 
--- src/exits.rt:37:13
 returns-3 : tie.Need-returns-3
 returns-3 c = unfold flagRules in simp (lt-leb _ _ (c .before .before .if1 .left), eq-eqb _ _ (c .before .if3 .taken), eq-eqb _ _ (c .if4 .taken))
 
--- src/exits.rt:39:9
 returns-4 : tie.Need-returns-4
 returns-4 c = unfold flagRules in simp (lt-leb _ _ (c .before .before .if1 .left), eq-eqb _ _ (c .before .if3 .taken), ne-eqb _ _ (c .if4 .left))
 
--- src/exits.rt:26:1
 returns-5 : tie.Need-returns-5
 returns-5 c = unfold flagRules in simp (lt-leb _ _ (c .before .if1 .left), ne-eqb _ _ (c .if3 .left))
 

@@ -3,51 +3,34 @@ use Rattle.words.proofs.Chain.{exits}
 use borrow.Author.Needs.{needs}
 use Rattle.words.proofs.exits.letter_exit.Statement.{statement}
 use Rattle.words.proofs.exits.letter_exit.Tie as tie
-use Rattle.words.proofs.exits.letter_exit.Reads as reads
-use Rattle.words.proofs.exits.letter_exit.Lts as lts
-use Rattle.words.proofs.exits.number_exit.Reads as number-exit-reads
-use Rattle.words.proofs.rules.is_hebrew_double.Reads as is-hebrew-double-reads
-use Rattle.words.proofs.rules.is_hebrew_single.Reads as is-hebrew-single-reads
-use Rattle.words.proofs.rules.is_letter_run.Reads as is-letter-run-reads
-use Rattle.words.proofs.rules.is_mid_letter.Reads as is-mid-letter-reads
 
--- src/exits.rt:68:8
 is-letter-run-requires : tie.Need-is-letter-run-requires
 is-letter-run-requires c κs = search needs
 
--- src/exits.rt:69:9
 returns : tie.Need-returns
 returns c = unfold letterRules in search exits depth 14
 
--- src/exits.rt:71:8
 is-mid-letter-requires : tie.Need-is-mid-letter-requires
 is-mid-letter-requires c κs = search needs
 
--- src/exits.rt:72:9
 returns-2 : tie.Need-returns-2
 returns-2 c = unfold letterRules in search exits depth 14
 
--- src/exits.rt:74:8
 is-hebrew-single-requires : tie.Need-is-hebrew-single-requires
 is-hebrew-single-requires c κs = search needs
 
--- src/exits.rt:75:9
 returns-3 : tie.Need-returns-3
 returns-3 c = unfold letterRules in search exits depth 14
 
--- src/exits.rt:77:8
 is-hebrew-double-requires : tie.Need-is-hebrew-double-requires
 is-hebrew-double-requires c κs = search needs
 
--- src/exits.rt:78:9
 returns-4 : tie.Need-returns-4
 returns-4 c = unfold letterRules in search exits depth 14
 
--- src/exits.rt:80:5
 number-exit-requires : tie.Need-number-exit-requires
 number-exit-requires c κs = search needs
 
--- src/exits.rt:65:1
 returns-5 : tie.Need-returns-5
 returns-5 c = unfold letterRules in search exits depth 14
 

@@ -3,60 +3,40 @@ use Rattle.words.proofs.Chain.{exits}
 use borrow.Author.Needs.{needs}
 use Rattle.words.proofs.exits.pair_exit.Statement.{statement}
 use Rattle.words.proofs.exits.pair_exit.Tie as tie
-use Rattle.words.proofs.exits.pair_exit.Reads as reads
-use Rattle.words.proofs.exits.pair_exit.Lts as lts
-use Rattle.words.proofs.exits.letter_exit.Reads as letter-exit-reads
-use Rattle.words.proofs.rules.is_by_newline.Reads as is-by-newline-reads
-use Rattle.words.proofs.rules.is_crlf.Reads as is-crlf-reads
-use Rattle.words.proofs.rules.is_space_run.Reads as is-space-run-reads
-use Rattle.words.proofs.rules.is_zwj_pictograph.Reads as is-zwj-pictograph-reads
-use Rattle.words.proofs.sets.is_ignorable.Reads as is-ignorable-reads
 
--- src/exits.rt:86:8
 is-crlf-requires : tie.Need-is-crlf-requires
 is-crlf-requires c κs = search needs
 
--- src/exits.rt:87:9
 returns : tie.Need-returns
 returns c = unfold pairRules in search exits depth 14
 
--- src/exits.rt:89:8
 is-by-newline-requires : tie.Need-is-by-newline-requires
 is-by-newline-requires c κs = search needs
 
--- src/exits.rt:90:9
 returns-2 : tie.Need-returns-2
 returns-2 c = unfold pairRules in search exits depth 14
 
--- src/exits.rt:92:8
 is-zwj-pictograph-requires : tie.Need-is-zwj-pictograph-requires
 is-zwj-pictograph-requires c κs = search needs
 
--- src/exits.rt:93:9
 returns-3 : tie.Need-returns-3
 returns-3 c = unfold pairRules in search exits depth 14
 
--- src/exits.rt:96:8
 is-ignorable-requires : tie.Need-is-ignorable-requires
 is-ignorable-requires c κs = search needs
 
--- src/exits.rt:97:9
 returns-4 : tie.Need-returns-4
 returns-4 c = unfold pairRules in search exits depth 14
 
--- src/exits.rt:99:8
 is-space-run-requires : tie.Need-is-space-run-requires
 is-space-run-requires c κs = search needs
 
--- src/exits.rt:100:9
 returns-5 : tie.Need-returns-5
 returns-5 c = unfold pairRules in search exits depth 14
 
--- src/exits.rt:102:5
 letter-exit-requires : tie.Need-letter-exit-requires
 letter-exit-requires c κs = search needs
 
--- src/exits.rt:83:1
 returns-6 : tie.Need-returns-6
 returns-6 c = unfold pairRules in search exits depth 14
 

@@ -2,23 +2,16 @@ use Rattle.records.proofs.Chain.{chains}
 use borrow.Author.Needs.{needs}
 use Rattle.words.proofs.rules.is_by_newline.Statement.{statement}
 use Rattle.words.proofs.rules.is_by_newline.Tie as tie
-use Rattle.words.proofs.rules.is_by_newline.Reads as reads
-use Rattle.words.proofs.rules.is_by_newline.Lts as lts
-use Rattle.words.proofs.sets.is_newline.Reads as is-newline-reads
 
--- src/rules.rt:27:8
 is-newline-requires : tie.Need-is-newline-requires
 is-newline-requires c κs = search needs
 
--- src/rules.rt:28:9
 returns : tie.Need-returns
 returns c = search chains depth 12
 
--- src/rules.rt:30:5
 is-newline-requires-2 : tie.Need-is-newline-requires-2
 is-newline-requires-2 c κs = search needs
 
--- src/rules.rt:24:1
 returns-2 : tie.Need-returns-2
 returns-2 c = search chains depth 12
 

@@ -2,23 +2,16 @@ use Rattle.records.proofs.Chain.{chains}
 use borrow.Author.Needs.{needs}
 use Rattle.words.proofs.rules.is_hebrew_double.Statement.{statement}
 use Rattle.words.proofs.rules.is_hebrew_double.Tie as tie
-use Rattle.words.proofs.rules.is_hebrew_double.Reads as reads
-use Rattle.words.proofs.rules.is_hebrew_double.Lts as lts
-use Rattle.words.proofs.Next.is.Reads as is-reads
 
--- src/rules.rt:91:13
 is-requires : tie.Need-is-requires
 is-requires c κs = search needs
 
--- src/rules.rt:91:13
 returns : tie.Need-returns
 returns c = search chains depth 12
 
--- src/rules.rt:86:1
 returns-2 : tie.Need-returns-2
 returns-2 c = search chains depth 12
 
--- src/rules.rt:86:1
 returns-3 : tie.Need-returns-3
 returns-3 c = search chains depth 12
 

@@ -2,24 +2,16 @@ use Rattle.records.proofs.Chain.{chains}
 use borrow.Author.Needs.{needs}
 use Rattle.words.proofs.rules.is_letter_run.Statement.{statement}
 use Rattle.words.proofs.rules.is_letter_run.Tie as tie
-use Rattle.words.proofs.rules.is_letter_run.Reads as reads
-use Rattle.words.proofs.rules.is_letter_run.Lts as lts
-use Rattle.words.proofs.sets.is_letter.Reads as is-letter-reads
-use Rattle.words.proofs.sets.is_letter_or_number.Reads as is-letter-or-number-reads
 
--- src/rules.rt:57:8
 is-letter-requires : tie.Need-is-letter-requires
 is-letter-requires c κs = search needs
 
--- src/rules.rt:58:9
 is-letter-or-number-requires : tie.Need-is-letter-or-number-requires
 is-letter-or-number-requires c κs = search needs
 
--- src/rules.rt:58:9
 returns : tie.Need-returns
 returns c = search chains depth 12
 
--- src/rules.rt:54:1
 returns-2 : tie.Need-returns-2
 returns-2 c = search chains depth 12
 

@@ -2,28 +2,19 @@ use Rattle.records.proofs.Chain.{chains}
 use borrow.Author.Needs.{needs}
 use Rattle.words.proofs.rules.is_mid_number.Statement.{statement}
 use Rattle.words.proofs.rules.is_mid_number.Tie as tie
-use Rattle.words.proofs.rules.is_mid_number.Reads as reads
-use Rattle.words.proofs.rules.is_mid_number.Lts as lts
-use Rattle.words.proofs.Next.is.Reads as is-reads
-use Rattle.words.proofs.sets.is_between_numbers.Reads as is-between-numbers-reads
 
--- src/rules.rt:112:12
 is-between-numbers-requires : tie.Need-is-between-numbers-requires
 is-between-numbers-requires c κs = search needs
 
--- src/rules.rt:113:13
 is-requires : tie.Need-is-requires
 is-requires c κs = search needs
 
--- src/rules.rt:113:13
 returns : tie.Need-returns
 returns c = search chains depth 12
 
--- src/rules.rt:108:1
 returns-2 : tie.Need-returns-2
 returns-2 c = search chains depth 12
 
--- src/rules.rt:108:1
 returns-3 : tie.Need-returns-3
 returns-3 c = search chains depth 12
 

@@ -1,14 +1,10 @@
 use Rattle.records.proofs.Chain.{chains}
 use Rattle.words.proofs.rules.is_zwj_pictograph.Statement.{statement}
 use Rattle.words.proofs.rules.is_zwj_pictograph.Tie as tie
-use Rattle.words.proofs.rules.is_zwj_pictograph.Reads as reads
-use Rattle.words.proofs.rules.is_zwj_pictograph.Lts as lts
 
--- src/rules.rt:38:9
 returns : tie.Need-returns
 returns c = search chains depth 12
 
--- src/rules.rt:34:1
 returns-2 : tie.Need-returns-2
 returns-2 c = search chains depth 12
 

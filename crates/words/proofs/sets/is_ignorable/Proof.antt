@@ -1,18 +1,13 @@
 use Rattle.records.proofs.Chain.{chains}
 use Rattle.words.proofs.sets.is_ignorable.Statement.{statement}
 use Rattle.words.proofs.sets.is_ignorable.Tie as tie
-use Rattle.words.proofs.sets.is_ignorable.Reads as reads
-use Rattle.words.proofs.sets.is_ignorable.Lts as lts
 
--- src/sets.rt:26:9
 returns : tie.Need-returns
 returns c = search chains depth 12
 
--- src/sets.rt:29:9
 returns-2 : tie.Need-returns-2
 returns-2 c = search chains depth 12
 
--- src/sets.rt:22:1
 returns-3 : tie.Need-returns-3
 returns-3 c = search chains depth 12
 

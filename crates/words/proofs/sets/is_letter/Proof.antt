@@ -1,14 +1,10 @@
 use Rattle.records.proofs.Chain.{chains}
 use Rattle.words.proofs.sets.is_letter.Statement.{statement}
 use Rattle.words.proofs.sets.is_letter.Tie as tie
-use Rattle.words.proofs.sets.is_letter.Reads as reads
-use Rattle.words.proofs.sets.is_letter.Lts as lts
 
--- src/sets.rt:38:9
 returns : tie.Need-returns
 returns c = search chains depth 12
 
--- src/sets.rt:34:1
 returns-2 : tie.Need-returns-2
 returns-2 c = search chains depth 12
 

@@ -2,19 +2,13 @@ use Rattle.records.proofs.Chain.{chains}
 use borrow.Author.Needs.{needs}
 use Rattle.words.proofs.sets.is_letter_or_number.Statement.{statement}
 use Rattle.words.proofs.sets.is_letter_or_number.Tie as tie
-use Rattle.words.proofs.sets.is_letter_or_number.Reads as reads
-use Rattle.words.proofs.sets.is_letter_or_number.Lts as lts
-use Rattle.words.proofs.sets.is_letter.Reads as is-letter-reads
 
--- src/sets.rt:47:9
 returns : tie.Need-returns
 returns c = search chains depth 12
 
--- src/sets.rt:49:5
 is-letter-requires : tie.Need-is-letter-requires
 is-letter-requires c κs = search needs
 
--- src/sets.rt:43:1
 returns-2 : tie.Need-returns-2
 returns-2 c = search chains depth 12
 
