@@ -67,7 +67,7 @@ def main():
     folder, *files = sys.argv[1:]
     coverage = Coverage(folder)
     taken = set()
-    for file in files or (lists.REPLAYED[0], lists.WAITING[0]):
+    for file in files or lists.REPLAYED[:1]:
         for blocks in coverage.blocks(pathlib.Path(file).read_text(encoding="latin-1").split("\n")[:-1]):
             taken |= blocks
     report(coverage, taken)

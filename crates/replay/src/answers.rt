@@ -2,12 +2,12 @@
 use crate::out;
 use crate::out::Buffer;
 use crate::refusals::refusal;
+use crate::texts::Ask;
 use crate::texts::text;
+use crate::zeros;
 use cases::Line;
-use parse::Place;
 use records::Verdict;
 use records::cells::cell8;
-use segment::Segmenter;
 use words::WordState;
 use words::WordStep;
 
@@ -27,9 +27,9 @@ fn cells(to: &mut Buffer, at: usize, answers: &[u8; 65535], n: usize) -> usize {
 
 fn word_run(to: &mut Buffer, at: usize, line: &[u8], size: u32, records: usize) -> usize {
     let section = cases::part(line, b';', 2);
-    let mut classes = [0u8; 4097];
-    let mut pictographs = [0u8; 4097];
-    let mut answers = [0u8; 65535];
+    let mut classes = zeros::column8();
+    let mut pictographs = zeros::column8();
+    let mut answers = zeros::cells8();
     let n = cases::column8(section, 0, records, &mut classes);
     let m = cases::column8(section, 1, records, &mut pictographs);
     let k = io::count(size as isize, &answers);
@@ -94,20 +94,17 @@ pub fn answer(to: &mut Buffer, at: usize, line: &[u8], number: u64) -> usize {
             parser,
             mode,
             full,
-            number: place,
+            number: cells,
             records,
             parts,
         } => {
-            if full {
-                return at;
-            }
-            let place = Place { at: place as usize };
-            let s = Segmenter {
+            let ask = Ask {
                 parser,
                 mode,
-                place,
+                full,
+                number: cells as usize,
             };
-            let end = text(to, at, line, s, records as usize, parts as usize);
+            let end = text(to, at, line, ask, records as usize, parts as usize);
             out::put(to, end, b'\n')
         }
         Line::Words {

@@ -4,6 +4,7 @@ mod clusters;
 mod out;
 mod refusals;
 mod texts;
+mod zeros;
 
 use libc::STDIN_FILENO;
 use out::Buffer;

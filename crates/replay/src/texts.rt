@@ -1,14 +1,31 @@
-// A text line: its columns, and the stepping calls over them.
+// A text line: its columns, and the stepping calls or the full run over them.
 use crate::clusters::call;
 use crate::out;
 use crate::out::Buffer;
 use crate::refusals::refusal;
+use crate::zeros;
 use cases::column8;
 use cases::column16;
 use cases::column32;
+use classes::Mode;
+use parse::Place;
 use records::Parser;
+use records::Verdict;
+use records::cells::cell8;
+use records::cells::cell16;
+use records::cells::cell32;
+use segment::RunAnswer;
 use segment::Segmenter;
 use segment::What;
+ghost use Prim.Native.Nat.{_≤_};
+
+// What a line asks for: a full run into so many cells, or stepping calls from a place on.
+pub struct Ask {
+    pub parser: Parser,
+    pub mode: Mode,
+    pub full: bool,
+    pub number: usize,
+}
 
 // The stepping calls from the segmenter's place on. Each passes a token, so the turns are never used up.
 fn calls(
@@ -162,6 +179,195 @@ fn steps(
     )
 }
 
+// "scalar.class.cluster" of the first n cells, one blank between.
+fn written(
+    to: &mut Buffer,
+    at: usize,
+    n: usize,
+    oscalars: &[u32; 65535],
+    oclasses: &[u8; 65535],
+    oclusters: &[u16; 65535],
+) -> usize {
+    let mut end = at;
+    let mut i: usize = 0;
+    while i < n {
+        if 0 < i {
+            end = out::put(to, end, b' ');
+        }
+        end = out::hex(to, end, cell32(oscalars, i));
+        end = out::put(to, end, b'.');
+        end = out::decimal(to, end, cell8(oclasses, i) as u64);
+        end = out::put(to, end, b'.');
+        end = out::decimal(to, end, cell16(oclusters, i) as u64);
+        i += 1;
+    }
+    end
+}
+
+// "CLUSTERS PUSHED|", or the refusal.
+fn ran(to: &mut Buffer, at: usize, answer: RunAnswer) -> usize {
+    let verdict = answer.verdict;
+    if let Verdict::Refused {
+        number,
+        side,
+        index,
+    } = verdict {
+        return refusal(to, at, number, side, index);
+    }
+    let mut end = out::decimal(to, at, answer.clusters as u64);
+    end = out::put(to, end, b' ');
+    end = out::decimal(to, end, answer.characters as u64);
+    out::put(to, end, b'|')
+}
+
+// "CLUSTERS PUSHED|scalar.class.cluster …"
+fn run(
+    to: &mut Buffer,
+    at: usize,
+    ask: Ask,
+    scalars: &[u32],
+    breaks: &[u8],
+    uses: &[u8],
+    myanmars: &[u8],
+    categories: &[u8],
+    words: &[u8],
+    semojis: &[u8],
+    memojis: &[u8],
+    cemojis: &[u8],
+    pictographs: &[u8],
+    selectors: &[u8],
+    decomposes: &[u8],
+    firsts: &[u16],
+    counts: &[u8],
+    pscalars: &[u32],
+    pbreaks: &[u8],
+    puses: &[u8],
+    pcategories: &[u8],
+) -> usize {
+    let parser = ask.parser;
+    let mode = ask.mode;
+    let size = most(ask.number);
+    let mut oscalars = zeros::cells32();
+    let mut oclasses = zeros::cells8();
+    let mut oclusters = zeros::cells16();
+    let answer = segment::run(
+        parser,
+        mode,
+        scalars,
+        breaks,
+        uses,
+        myanmars,
+        categories,
+        words,
+        semojis,
+        memojis,
+        cemojis,
+        pictographs,
+        selectors,
+        decomposes,
+        firsts,
+        counts,
+        pscalars,
+        pbreaks,
+        puses,
+        pcategories,
+        &mut oscalars[..size],
+        &mut oclasses[..size],
+        &mut oclusters[..size],
+    );
+    let n = answer.characters;
+    let end = ran(to, at, answer);
+    written(to, end, n, &oscalars, &oclasses, &oclusters)
+}
+
+fn asked(
+    to: &mut Buffer,
+    at: usize,
+    ask: Ask,
+    scalars: &[u32],
+    breaks: &[u8],
+    uses: &[u8],
+    myanmars: &[u8],
+    categories: &[u8],
+    words: &[u8],
+    semojis: &[u8],
+    memojis: &[u8],
+    cemojis: &[u8],
+    pictographs: &[u8],
+    selectors: &[u8],
+    decomposes: &[u8],
+    firsts: &[u16],
+    counts: &[u8],
+    pscalars: &[u32],
+    pbreaks: &[u8],
+    puses: &[u8],
+    pcategories: &[u8],
+) -> usize {
+    if ask.full {
+        return run(
+            to,
+            at,
+            ask,
+            scalars,
+            breaks,
+            uses,
+            myanmars,
+            categories,
+            words,
+            semojis,
+            memojis,
+            cemojis,
+            pictographs,
+            selectors,
+            decomposes,
+            firsts,
+            counts,
+            pscalars,
+            pbreaks,
+            puses,
+            pcategories,
+        );
+    }
+    let parser = ask.parser;
+    let mode = ask.mode;
+    let place = Place { at: ask.number };
+    let s = Segmenter {
+        parser,
+        mode,
+        place,
+    };
+    steps(
+        to,
+        at,
+        s,
+        scalars,
+        breaks,
+        uses,
+        myanmars,
+        categories,
+        words,
+        semojis,
+        memojis,
+        cemojis,
+        pictographs,
+        selectors,
+        decomposes,
+        firsts,
+        counts,
+        pscalars,
+        pbreaks,
+        puses,
+        pcategories,
+    )
+}
+
+// No column of a case has more cells.
+fn most(cells: usize) -> usize
+    ensures { λ r. ⌜ r ≤ 65535 ⌝ }
+{
+    if cells < 65535 { cells } else { 65535 }
+}
+
 fn first8(column: &[u8], n: usize) -> &[u8] {
     if n <= column.len() {
         return &column[..n];
@@ -187,7 +393,7 @@ fn first32(column: &[u32], n: usize) -> &[u32] {
 fn cut(
     to: &mut Buffer,
     at: usize,
-    s: Segmenter,
+    ask: Ask,
     records: usize,
     parts: usize,
     scalars: &[u32; 4097],
@@ -209,10 +415,10 @@ fn cut(
     puses: &[u8; 4097],
     pcategories: &[u8; 4097],
 ) -> usize {
-    steps(
+    asked(
         to,
         at,
-        s,
+        ask,
         first32(scalars, records),
         first8(breaks, records),
         first8(uses, records),
@@ -234,49 +440,49 @@ fn cut(
     )
 }
 
-pub fn text(to: &mut Buffer, at: usize, line: &[u8], s: Segmenter, n: usize, m: usize) -> usize {
-    let mut scalars = [0u32; 4097];
-    let mut breaks = [0u8; 4097];
-    let mut uses = [0u8; 4097];
-    let mut myanmars = [0u8; 4097];
-    let mut categories = [0u8; 4097];
-    let mut words = [0u8; 4097];
-    let mut semojis = [0u8; 4097];
-    let mut memojis = [0u8; 4097];
-    let mut cemojis = [0u8; 4097];
-    let mut pictographs = [0u8; 4097];
-    let mut selectors = [0u8; 4097];
-    let mut decomposes = [0u8; 4097];
-    let mut firsts = [0u16; 4097];
-    let mut counts = [0u8; 4097];
-    let mut pscalars = [0u32; 4097];
-    let mut pbreaks = [0u8; 4097];
-    let mut puses = [0u8; 4097];
-    let mut pcategories = [0u8; 4097];
+fn read8(section: &[u8], k: usize, n: usize) -> [u8; 4097] {
+    let mut column = zeros::column8();
+    column8(section, k, n, &mut column);
+    column
+}
+
+fn read16(section: &[u8], k: usize, n: usize) -> [u16; 4097] {
+    let mut column = zeros::column16();
+    column16(section, k, n, &mut column);
+    column
+}
+
+fn read32(section: &[u8], k: usize, n: usize) -> [u32; 4097] {
+    let mut column = zeros::column32();
+    column32(section, k, n, &mut column);
+    column
+}
+
+pub fn text(to: &mut Buffer, at: usize, line: &[u8], ask: Ask, n: usize, m: usize) -> usize {
     let section = cases::part(line, b';', 4);
-    column32(section, 0, n, &mut scalars);
-    column8(section, 1, n, &mut breaks);
-    column8(section, 2, n, &mut uses);
-    column8(section, 3, n, &mut myanmars);
-    column8(section, 4, n, &mut categories);
-    column8(section, 5, n, &mut words);
-    column8(section, 6, n, &mut semojis);
-    column8(section, 7, n, &mut memojis);
-    column8(section, 8, n, &mut cemojis);
-    column8(section, 9, n, &mut pictographs);
-    column8(section, 10, n, &mut selectors);
-    column8(section, 11, n, &mut decomposes);
-    column16(section, 12, n, &mut firsts);
-    column8(section, 13, n, &mut counts);
+    let scalars = read32(section, 0, n);
+    let breaks = read8(section, 1, n);
+    let uses = read8(section, 2, n);
+    let myanmars = read8(section, 3, n);
+    let categories = read8(section, 4, n);
+    let words = read8(section, 5, n);
+    let semojis = read8(section, 6, n);
+    let memojis = read8(section, 7, n);
+    let cemojis = read8(section, 8, n);
+    let pictographs = read8(section, 9, n);
+    let selectors = read8(section, 10, n);
+    let decomposes = read8(section, 11, n);
+    let firsts = read16(section, 12, n);
+    let counts = read8(section, 13, n);
     let second = cases::part(line, b';', 5);
-    column32(second, 0, m, &mut pscalars);
-    column8(second, 1, m, &mut pbreaks);
-    column8(second, 2, m, &mut puses);
-    column8(second, 3, m, &mut pcategories);
+    let pscalars = read32(second, 0, m);
+    let pbreaks = read8(second, 1, m);
+    let puses = read8(second, 2, m);
+    let pcategories = read8(second, 3, m);
     cut(
         to,
         at,
-        s,
+        ask,
         n,
         m,
         &scalars,
