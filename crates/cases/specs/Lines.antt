@@ -1,4 +1,4 @@
--- The lines of CASES.md.
+-- The lines of the layout that oracle/README.md fixes.
 use Prim.Native.Nat.{ℕ}
 use mathlib.Core.Bool.{Bool, true, false, cond, _||_}
 use mathlib.Core.List.{List, [], _∷_}

@@ -1,4 +1,4 @@
-// The lines: what each asks for, in the order of CASES.md.
+// The lines: what each asks for, in the order of oracle/README.md.
 use crate::columns::field8;
 use crate::items::Kind;
 use crate::items::count_items;
