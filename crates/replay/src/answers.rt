@@ -79,14 +79,14 @@ fn word_step(to: &mut Buffer, at: usize, step: WordStep) -> usize {
     state(to, end, after)
 }
 
-pub fn not_of_layout(to: &mut Buffer, at: usize, number: u64) -> usize {
+pub(crate) fn not_of_layout(to: &mut Buffer, at: usize, number: u64) -> usize {
     let mut end = out::text(to, at, b"? ");
     end = out::decimal(to, end, number);
     out::put(to, end, b'\n')
 }
 
 // The answer to a line with its number.
-pub fn answer(to: &mut Buffer, at: usize, line: &[u8], number: u64) -> usize {
+pub(crate) fn answer(to: &mut Buffer, at: usize, line: &[u8], number: u64) -> usize {
     match cases::read(line) {
         Line::Skipped => at,
         Line::NotOfLayout => not_of_layout(to, at, number),

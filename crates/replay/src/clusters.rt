@@ -64,7 +64,13 @@ fn signs(to: &mut Buffer, at: usize, info: Info) -> usize {
     out::put(to, end, mark(info.normalise, b'Z'))
 }
 
-pub fn call(to: &mut Buffer, at: usize, from: usize, next: usize, cluster: Cluster) -> usize {
+pub(crate) fn call(
+    to: &mut Buffer,
+    at: usize,
+    from: usize,
+    next: usize,
+    cluster: Cluster,
+) -> usize {
     let info = cluster.info;
     let mut end = out::put(to, at, b'|');
     end = out::decimal(to, end, from as u64);

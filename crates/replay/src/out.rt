@@ -4,7 +4,7 @@ use libc::STDOUT_FILENO;
 pub type Buffer = [u8; 65536];
 
 // One call for 64 KiB: a call for each byte would be slow.
-pub fn put(out: &mut Buffer, at: usize, byte: u8) -> usize {
+pub(crate) fn put(out: &mut Buffer, at: usize, byte: u8) -> usize {
     if at < 65536 {
         out[at] = byte;
         return at + 1;
@@ -20,11 +20,11 @@ fn write_first(bytes: &[u8], n: usize) {
     }
 }
 
-pub fn flush(out: &Buffer, at: usize) {
+pub(crate) fn flush(out: &Buffer, at: usize) {
     write_first(out, at);
 }
 
-pub fn text(out: &mut Buffer, at: usize, bytes: &[u8]) -> usize {
+pub(crate) fn text(out: &mut Buffer, at: usize, bytes: &[u8]) -> usize {
     let mut end = at;
     let mut i: usize = 0;
     while i < bytes.len() {
@@ -34,7 +34,7 @@ pub fn text(out: &mut Buffer, at: usize, bytes: &[u8]) -> usize {
     end
 }
 
-pub fn decimal(out: &mut Buffer, at: usize, n: u64) -> usize {
+pub(crate) fn decimal(out: &mut Buffer, at: usize, n: u64) -> usize {
     let mut digits = [0u8; 20];
     let k = io::decimal(n, &mut digits);
     text(out, at, &digits[..k])
@@ -46,7 +46,7 @@ fn digit(d: u32) -> u8 {
 }
 
 // Capital digits, "four or as many more as needed".
-pub fn hex(out: &mut Buffer, at: usize, x: u32) -> usize {
+pub(crate) fn hex(out: &mut Buffer, at: usize, x: u32) -> usize {
     let mut end = at;
     let mut unit: u32 = 0x10000000;
     while 0 < unit {

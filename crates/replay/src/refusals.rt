@@ -11,7 +11,7 @@ fn side(s: Side) -> u8 {
     }
 }
 
-pub fn refusal(to: &mut Buffer, at: usize, number: u8, s: Side, index: usize) -> usize {
+pub(crate) fn refusal(to: &mut Buffer, at: usize, number: u8, s: Side, index: usize) -> usize {
     let mut end = out::text(to, at, b"R ");
     end = out::decimal(to, end, number as u64);
     end = out::put(to, end, b' ');

@@ -458,7 +458,7 @@ fn read32(section: &[u8], k: usize, n: usize) -> [u32; 4097] {
     column
 }
 
-pub fn text(to: &mut Buffer, at: usize, line: &[u8], ask: Ask, n: usize, m: usize) -> usize {
+pub(crate) fn text(to: &mut Buffer, at: usize, line: &[u8], ask: Ask, n: usize, m: usize) -> usize {
     let section = cases::part(line, b';', 4);
     let scalars = read32(section, 0, n);
     let breaks = read8(section, 1, n);
