@@ -292,3 +292,10 @@ unfoldable pub told : Case → Outcome
 told (clusters parser signs parts crate whole) =
     record { crate = answersOf parser Crate 0 crate; whole = answersOf parser Whole 0 whole; cells = [] }
 told (words classes pictographs answers) = record { crate = []; whole = []; cells = answers }
+
+-- two records that no parser puts into one cluster: those of P04, two consonants, two bases
+abbrev pub pair : Parser → Text
+pair Simple = textFor Simple (flag 0x1F1E6 ∷ flag 0x1F1E7 ∷ []) []
+pair Myanmar = textFor Myanmar (sign 0x1000 Myanmar-class.C ∷ sign 0x1000 Myanmar-class.C ∷ []) []
+pair Complex = textFor Complex (sign 0x1780 Use.B ∷ sign 0x1780 Use.B ∷ []) []
+pair Khmer = textFor Khmer (sign 0x1780 Use.B ∷ sign 0x1780 Use.B ∷ []) []
