@@ -1,6 +1,6 @@
 /*
  * The story's label, U+1004 U+103A U+1039, a Myanmar kinzi at the end of the text, in both modes; then the same label with a class that
- * is in no list, which is refused.
+ * is in no list, and other calls that are refused.
  */
 #include <stdio.h>
 
@@ -81,6 +81,16 @@ static void print_counts(const char *name, uint64_t mode, ezh_text t) {
     printf("%s run: clusters %d, characters %d\n", name, (int)results[EZH_RUN_CLUSTERS], (int)results[EZH_RUN_CHARACTERS]);
 }
 
+/* What is refused before the text is looked at: a parser that is none, and a results column without room, which stays as it is. */
+static void print_refusals(ezh_text t) {
+    uint64_t results[EZH_CHECK_CELLS] = {7, 7, 7};
+    uint64_t refusal = ezh_check(EZH_KHMER + 1, EZH_TEXT(t), results, EZH_CHECK_CELLS);
+    printf("parser 4: refused %d, side %d\n", (int)refusal, (int)results[EZH_SIDE]);
+    results[EZH_REFUSAL] = 7;
+    refusal = ezh_check(EZH_MYANMAR, EZH_TEXT(t), results, EZH_CHECK_CELLS - 1);
+    printf("two cells of results: refused %d, first cell %d\n", (int)refusal, (int)results[EZH_REFUSAL]);
+}
+
 /* "LF RI RI RI": the RI after a newline is not counted. */
 static void print_words(void) {
     const uint8_t words[4] = {EZH_WORD_LF, EZH_WORD_RI, EZH_WORD_RI, EZH_WORD_RI};
@@ -100,6 +110,7 @@ int main(void) {
     print_counts("crate", EZH_CRATE, label(kinzi));
     print_counts("whole", EZH_WHOLE, label(kinzi));
     print_clusters("a class outside its list, whole", EZH_WHOLE, label(unlisted));
+    print_refusals(label(kinzi));
     print_words();
     return 0;
 }
