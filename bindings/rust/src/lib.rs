@@ -32,4 +32,4 @@ mod words;
 pub use clusters::{Character, Cluster, Clusters, Counts, Emoji, Mode, Parser, Run, Space, Step};
 pub use refusal::{Refusal, Side};
 pub use text::{Columns, Marks, Part, Record, Text};
-pub use words::{word_run, WordState, Words};
+pub use words::{word_check, word_run, WordState, Words};

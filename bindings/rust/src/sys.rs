@@ -46,6 +46,14 @@ over_a_text! {
 }
 
 extern "C" {
+    pub(crate) fn ezh_check_words(
+        words: *const u8,
+        words_count: usize,
+        pictographs: *const u8,
+        pictographs_count: usize,
+        results: *mut u64,
+        results_count: usize,
+    ) -> u64;
     pub(crate) fn ezh_run_words(
         words: *const u8,
         words_count: usize,

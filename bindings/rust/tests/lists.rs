@@ -4,7 +4,7 @@
 use std::collections::BTreeMap;
 use std::fs;
 
-use ezherbut::{word_run, Cluster, Columns, Emoji, Mode, Parser, Refusal, Side, Space, WordState};
+use ezherbut::{word_check, word_run, Cluster, Columns, Emoji, Mode, Parser, Refusal, Side, Space, WordState};
 
 /// The columns of a case, of any codes.
 #[derive(Default)]
@@ -82,6 +82,15 @@ fn refused(refusal: Refusal) -> String {
     format!("R {} {} {side}", refusal.number, refusal.index)
 }
 
+/// "a refusal of the check is handed out unchanged by every call": what a call refuses and the check does not is its own number, 8 or 9.
+fn hold_to_check<T>(check: Result<(), Refusal>, call: &Result<T, Refusal>) {
+    match (check, call) {
+        (Ok(()), Ok(_)) => {}
+        (Ok(()), Err(refusal)) => assert!(7 < refusal.number),
+        (Err(refusal), call) => assert_eq!(call.as_ref().err(), Some(&refusal)),
+    }
+}
+
 fn info(cluster: &Cluster) -> String {
     let emoji = match cluster.emoji {
         Emoji::None => 'n',
@@ -151,6 +160,7 @@ fn clusters_case(kind: char, fields: &[&str]) -> String {
     } else {
         full_run(case.columns(), parser, mode, number)
     };
+    hold_to_check(case.columns().check(parser), &answer);
     answer.unwrap_or_else(refused)
 }
 
@@ -164,6 +174,7 @@ fn words_case(fields: &[&str]) -> String {
     let (words, pictographs): (Vec<u8>, Vec<u8>) = pairs.into_iter().unzip();
     let mut out = vec![7; cells.parse().unwrap()];
     let run = word_run(&words, &pictographs, &mut out);
+    hold_to_check(word_check(&words, &pictographs), &run);
     let written = run.map_or(0, |()| words.len());
     assert!(out[written..].iter().all(|&cell| cell == 7));
     match run {
