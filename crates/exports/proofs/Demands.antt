@@ -28,7 +28,7 @@ use Rattle.exports.specs.declared.Step.{Step}
 use Rattle.exports.specs.Requests.{inMode, requestOf}
 use Rattle.exports.specs.Results.{sideCode, Told}
 use Rattle.exports.specs.Calls as Calls
-use Rattle.exports.specs.Steps.{refusedAt, accepted, roomyOr, stepUnder, taken, stepFor, stepOf, laid, Laid, Stepped}
+use Rattle.exports.specs.Steps.{refusedAt, accepted, stepUnder, taken, stepFor, stepOf, laid, Laid, Stepped}
 use Rattle.exports.specs.Words as Words
 use Rattle.exports.proofs.Cells.{no-room}
 

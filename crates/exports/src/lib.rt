@@ -21,7 +21,6 @@ use results::unlisted_run;
 use steps::hand_over;
 use steps::next_asked;
 use wordsteps::tell_word;
-ghost use mathlib.Core.Path.{_≡_};
 ghost use mathlib.Core.List.{[]};
 ghost use lib.ListN.{length};
 ghost use Rattle.records.specs.Text.{textOf};
