@@ -1,1 +1,2 @@
 pub mod Locals
+pub mod Walk
