@@ -1,2 +1,5 @@
+pub mod Called
+pub mod Held
 pub mod Locals
+pub mod Stands
 pub mod Walk
