@@ -61,9 +61,10 @@ module _ {n : ℕ} where
 
 pub goes : {M : Type 1} (𝓤 : URA M) (H : Heap 𝓤) (A : Atoms 𝓤) (W : Given 𝓤 H A) {n : ℕ} (ss : List (Slot n)) (ks : Kepts ss) → ((κs : Lfts n) → Holds (quiet ss ks κs)) → AllGo 𝓤 H A W n ss ks (stays ss ks)
 goes 𝓤 H A W [] ks t = tt
-goes 𝓤 H A W {n} (s ∷ ss) ks t =
-    (goes-silent 𝓤 H A W n s (ks .0) (stays (s ∷ ss) ks .0) (λ κs x f. silent-left (s .row κs .exit (ks .0)) x f (and-yes (silent (s .row κs .exit (ks .0))) (quiet ss (ks .1) κs) (t κs) .0)),
-    goes 𝓤 H A W ss (ks .1) (λ κs. and-yes (silent (s .row κs .exit (ks .0))) (quiet ss (ks .1) κs) (t κs) .1))
+goes 𝓤 H A W {n} (s ∷ ss) ks t = (
+  goes-silent 𝓤 H A W n s (ks .0) (stays (s ∷ ss) ks .0) (λ κs x f. silent-left (s .row κs .exit (ks .0)) x f (and-yes (silent (s .row κs .exit (ks .0))) (quiet ss (ks .1) κs) (t κs) .0)),
+  goes 𝓤 H A W ss (ks .1) (λ κs. and-yes (silent (s .row κs .exit (ks .0))) (quiet ss (ks .1) κs) (t κs) .1),
+)
 
 module _ {M : Type 1} (𝓤 : URA M) (H : Heap 𝓤) (𝓜 : Model 𝓤 H) (𝓖 : GhostRules 𝓤 H) (𝓡 : Running 𝓤 H 𝓜) (γ : Env) where
   pub framed : FmC 𝓤 H (givenOf 𝓤 H 𝓜 𝓖 .laws) (tables 𝓤 H 𝓜 𝓡 γ .C)

@@ -75,10 +75,12 @@ module _ {M : Type 1} (𝓤 : URA M) (H : Heap 𝓤) (A : Atoms 𝓤) (W : Given
   lent-readable e τ l b o E k [] t = tt
   lent-readable e τ l b o E k (σ ∷ σs) t =
       let x : ((x : Ty × ℕ) × (fieldAt zero τs k ≡ just x)) × T (within τs (suc k) σs) = first-found τs k σ σs t in
-      let c : Item 𝓤 = ‵ (fat fullShare τ l zero (vptr b o)) in
-      ((λ Γ. reads-one 𝓤 H A W (e ∷ (τ, l) ∷ E) ((c ⊛ cell b o) ∷ Γ) (c ∷ cell b o ∷ Γ) (copy (lent-field (tyStruct ν τs) k)) (getV us k)
-      (qed W ((c ⊛ cell b o) ∷ Γ) ∵ split ! $ done !) (qed W (c ∷ cell b o ∷ Γ) ∵ join ! $ done !)
-      (load ! (from ! (hop ! (look ! 0 refl) (fld ! (x .0 .1) (stop !)))) (look-in ! 1 (sub ! k (x .0 .1) (whole !))))), lent-readable e τ l b o E (suc k) σs (x .1))
+      let c : Item 𝓤 = ‵ (fat fullShare τ l zero (vptr b o)) in (
+        (λ Γ. reads-one 𝓤 H A W (e ∷ (τ, l) ∷ E) ((c ⊛ cell b o) ∷ Γ) (c ∷ cell b o ∷ Γ) (copy (lent-field (tyStruct ν τs) k)) (getV us k)
+            (qed W ((c ⊛ cell b o) ∷ Γ) ∵ split ! $ done !) (qed W (c ∷ cell b o ∷ Γ) ∵ join ! $ done !)
+            (load ! (from ! (hop ! (look ! 0 refl) (fld ! (x .0 .1) (stop !)))) (look-in ! 1 (sub ! k (x .0 .1) (whole !))))),
+        lent-readable e τ l b o E (suc k) σs (x .1),
+      )
 
 -- ---- the four forms, and what is left of the first two once the fields are in locals
 abbrev call-on : List Ty → Name → Body
