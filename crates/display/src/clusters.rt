@@ -3,6 +3,7 @@ use libc::STDOUT_FILENO;
 use parse::Cluster;
 use parse::Emoji;
 use parse::Info;
+use parse::Pushed;
 use parse::Space;
 
 pub(crate) fn write(text: &[u8]) {
@@ -18,14 +19,12 @@ fn emoji(e: Emoji) {
     }
 }
 
+// The scalar that a space is worked out from says nothing here.
 fn space(s: Space) {
     match s {
         Space::None => {}
         Space::Newline => write(b" newline"),
-        Space::From(x) => {
-            write(b" space ");
-            io::print_hex(STDOUT_FILENO, x as u64, 4);
-        }
+        Space::From(_) => {}
     }
 }
 
@@ -39,20 +38,27 @@ fn signs(info: Info) {
     }
 }
 
-pub(crate) fn draw(cluster: Cluster) {
+fn character(c: Pushed) {
+    io::print_hex(STDOUT_FILENO, c.scalar as u64, 4);
+}
+
+fn characters(cluster: Cluster) {
     let chars = cluster.chars;
     let len = cluster.len;
-    let info = cluster.info;
-    write(b" [");
     for i in 0..32usize {
         if i < len {
             if 0 < i {
                 write(b" ");
             }
-            let c = chars[i];
-            io::print_hex(STDOUT_FILENO, c.scalar as u64, 4);
+            character(chars[i]);
         }
     }
+}
+
+pub(crate) fn draw(cluster: Cluster) {
+    let info = cluster.info;
+    write(b" [");
+    characters(cluster);
     signs(info);
     write(b"]");
 }
