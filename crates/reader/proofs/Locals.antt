@@ -22,7 +22,7 @@ use base.Logic.{ent, via, id⊢, mono∗}
 use base.Fml.{Fml, ftrue, fsep, froom, fdies, fat}
 use prog.Wp.{Heap, Env, Calls, Loops, noLocal}
 use ghost.Atoms.{Atoms, sem}
-use types.Kit.{Given, Item, ⋆, Post, Goal, runs, allocs, passes, frees, Seq, ‵, _$_, _∵_, !, Go, qed, move, use1, rewrite, drop, fsplit, fjoin, done}
+use types.Kit.{Given, Item, ⋆, Post, Goal, runs, allocs, passes, frees, Seq, ‵, _$_, _∵_, !, Go, qed, move, rewrite, drop, fsplit, fjoin, done}
 use types.Run.{Opd, Opds, look, init, stop, from, load, of-opd, and-then, no-more, assigns, alloc1, pass1, pass0, free1}
 use denote.Laws.{Typed}
 use denote.Steps.{nothing}

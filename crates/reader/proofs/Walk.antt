@@ -19,18 +19,18 @@ use mir.Facts.{and-yes}
 use mir.Syntax.{Name, Sym, Ty, tyStruct, Tys, field, deref, Place, place, copy, rvOpd, aggregate, Body, seq, assign, call, return, local, valueLocal, Fn}
 use mir.Val.{Val, Vals, vstruct, vptr, ofList, WT, hasTy}
 use mir.Fields.{getV, setV}
-use base.Logic.{SProp, ent, sep, guard, ex, via}
+use base.Logic.{SProp, ent, sep, guard, ex}
 use base.Fml.{fat, froom}
 use prog.Memory.{fieldAt}
 use prog.Wp.{Heap, Env, Calls, Loops, WpFn}
 use ghost.Atoms.{Atoms}
 use sound.WpLaws.{FmC}
-use types.Kit.{Given, Item, ⋆, ‵, raw, _⊛_, given, some, later, _$_, _∵_, !, Go, qed, move, use1, use2, by, split, join, rewrite, pick, learn, await, done}
+use types.Kit.{Given, Item, ‵, raw, _⊛_, given, some, later, _$_, _∵_, !, qed, move, use1, use2, by, split, join, rewrite, pick, learn, await, done}
 use types.Part.{whole, sub, look-in, store-in, agg}
-use types.Run.{Opd, look, init, forget, stop, hop, fld, from, load, of-opd, and-then, no-more, assigns, land, returns, enter, alloc1, alloc0, params1, pass1, pass0, free1, free0}
+use types.Run.{look, init, forget, stop, hop, fld, from, load, of-opd, and-then, no-more, assigns, land, returns, enter, alloc1, alloc0, params1, pass1, pass0, free1, free0}
 use denote.Laws.{Typed}
 use denote.Triple.Call.{calls-from}
-use Rattle.reader.proofs.Locals.{Blocks, locals, env, rooms, deaths, makes, frees-all, fills, forgets, Sits, sits, sits-after, sits-last, copies, parts, takes, reads-one, reads-all, reads-beside, Readable, takes-all}
+use Rattle.reader.proofs.Locals.{Blocks, locals, env, rooms, makes, frees-all, fills, forgets, Sits, sits, sits-after, sits-last, copies, parts, takes, reads-one, reads-all, reads-beside, Readable, takes-all}
 
 abbrev pub Fits : Ty → Val → Type 0
 Fits τ v = T (hasTy τ v) × WT v

@@ -12,7 +12,7 @@ use base.Fml.{GName, Lft, Share, ftrue, flft, fobs, fat, fobor, fauth}
 use prog.Memory.{Memory}
 use prog.Routine.{Routine}
 use prog.Wp.{Heap, Calls, Loops, WpFn}
-use ghost.Atoms.{Atoms, sem}
+use ghost.Atoms.{Atoms}
 use contract.Lifetimes.{AllOutlive}
 use contract.Monad.{Fun, fact}
 use contract.Running.{givenOf, tables}
@@ -45,7 +45,7 @@ use Rattle.reader.proofs.Reader.Laws as T′
 use Rattle.reader.proofs.Called.{Callee, tokens, asks, Returned, gives}
 use Rattle.reader.proofs.Held.{state, columns, D, L, R, args, cells, flats, mach, Own, Fields, twice, opened, typed, fields-are, put}
 use Rattle.reader.proofs.Stands.{framed, stands}
-use Rattle.reader.proofs.Walk.{Answers, stepper, stepped}
+use Rattle.reader.proofs.Walk.{Answers, stepped}
 use Rattle.reader.proofs.step as step
 use Rattle.reader.proofs.step.Symbol as step-def
 use Rattle.reader.proofs.step.Symbol.{name as #step}
