@@ -5,8 +5,8 @@
 --     makes, frees-all     they are allocated;        they are freed
 --     fills                the arguments vs are stored in them
 --     Sits E i             they are the locals from i on of the environment E
---     copies, reads-all    each is read, in their order
---     takes, takes-all     each is filled with a field of a struct, in the fields' order
+--     copies, reads-all, reads-beside    each is read, in their order
+--     takes, Readable, takes-all         each is filled with a field of a struct, in the fields' order, where the fields can be read
 --     forgets              what is held is forgotten
 -- Assumes `Given`.
 use mathlib.Core.Path.{_≡_, refl, sym, ap, subst}

@@ -13,11 +13,11 @@ use prog.Wp.{Heap, Calls, Loops, WpFn}
 use ghost.Atoms.{Atoms, sem}
 use contract.Monad.{Fun, factI}
 use contract.Running.{givenOf, tables}
-use types.Kit.{Given, Item, ‵, raw, _⊛_, some, later, _$_, _∵_, !, qed, by, move, use1, use2, split, rewrite, pick, fjoin, frame, await, done, updating, check, now as at-once}
+use types.Kit.{Given, Item, ‵, raw, _⊛_, _$_, _∵_, !, qed, by, move, use1, use2, split, rewrite, fjoin, frame, done, updating, check, now as at-once}
 use sound.WpLaws.{FmC}
 use denote.Laws.{Is, shows}
 use denote.Ref.{NamedLft}
-use denote.Steps.{peeks, heard, nothing}
+use denote.Steps.{peeks, nothing}
 use denote.Struct.Laws as LL
 use denote.Triple.Entry.{onEntry}
 use denote.Triple.Statement.{Contract, Triple}
@@ -29,7 +29,7 @@ use Rattle.segment.specs.declared.Answer.{Answer}
 use Rattle.segment.proofs.Answer as S
 use Rattle.segment.proofs.Answer.Laws as S′
 use Rattle.reader.proofs.Reader.Laws as T′
-use Rattle.reader.proofs.Called.{Callee, tokens, asks, Returned, gives}
+use Rattle.reader.proofs.Called.{Callee, tokens, asks, gave}
 use Rattle.reader.proofs.Held.{α, columns, D, L, R, args, cells, flats, FieldsAre, Fields, fields-twice, typed, spells, tells, reader}
 use Rattle.reader.proofs.Stands.{stays, goes, ends, framed, stands}
 use Rattle.reader.proofs.Walk.{relay, relayed}
@@ -87,21 +87,19 @@ module _ {M : Type 1} (𝓤 : URA M) (H : Heap 𝓤) (A : Atoms 𝓤) (W : Given
   between : (u : Val) → ent 𝓤 (sep 𝓤 (New .post y u) (sem 𝓤 H A (Fields (α κ) d))) (H .⇛ (guard 𝓤 (Holds (hasTy (T′.mir erased) u) × WT u) (sep 𝓤 (Next .pre (z u)) (sem 𝓤 H A (Fields (α κ) d)))))
   between u =
       qed W (raw (New .post y u) ∷ ‵ (Fields (α κ) d) ∷ []) ∵ updating ! $
-      use1 W (later (some (Returned 𝓤 H A new.ended (new.clauses 𝓤 H A at-mem run) y (λ (r : Reader). r ≡ d) u))) (gives 𝓤 H A new.ended (new.clauses 𝓤 H A at-mem run) y W (λ (r : Reader). r ≡ d) (λ r ws. id⊢ 𝓤 _) u) $ await ! tt $ pick ! (λ r.
-      split ! $ move ! (1 ∷ []) $ split ! $ move ! (1 ∷ []) $ heard ! (r ≡ d) (λ e. move ! (1 ∷ []) $
+      gave ! tt new.ended (new.clauses 𝓤 H A at-mem run) y (λ (r : Reader). r ≡ d) (λ r ws. id⊢ 𝓤 _) u (λ r e.
       -- [the reader; the token; what the parameters own]
       rewrite ! 0 (λ (t : Reader). ‵ (R (α κ) .own t (u ∷ []))) e refl $ peeks ! (R (α κ)) (Is (R (α κ))) (shows 𝓤 H A (R (α κ))) d (u ∷ []) (λ is.
       at-once ! $ check ! (LL.lawful (D (αᵉ κ)) (L (αᵉ κ)) 𝓤 H A W .typed d _ is .0) $ nothing ! $ move ! (1 ∷ 0 ∷ []) $ fjoin ! $ move ! (1 ∷ 0 ∷ []) $
-      use2 W (raw (Next .pre (z u))) (asks 𝓤 H A next.ended (next.clauses 𝓤 H A at-mem run) (z u) W (id⊢ 𝓤 _)) $ frame ! $ done !)))
+      use2 W (raw (Next .pre (z u))) (asks 𝓤 H A next.ended (next.clauses 𝓤 H A at-mem run) (z u) W (id⊢ 𝓤 _)) $ frame ! $ done !))
 
   after : (u v : Val) → ent 𝓤 (sep 𝓤 (Next .post (z u) v) (sem 𝓤 H A (Fields (α κ) d))) (H .⇛ (guard 𝓤 (Holds (hasTy S′.mir v) × WT v) (Post v)))
   after u v =
       qed W (raw (Next .post (z u) v) ∷ ‵ (Fields (α κ) d) ∷ []) ∵ updating ! $
-      use1 W (later (some (Returned 𝓤 H A next.ended (next.clauses 𝓤 H A at-mem run) (z u) (λ (r : Answer). r ≡ answerOf d) v))) (gives 𝓤 H A next.ended (next.clauses 𝓤 H A at-mem run) (z u) W (λ (r : Answer). r ≡ answerOf d) (λ r ws. id⊢ 𝓤 _) v) $ await ! tt $ pick ! (λ r.
-      split ! $ move ! (1 ∷ []) $ split ! $ move ! (1 ∷ []) $ heard ! (r ≡ answerOf d) (λ e. move ! (1 ∷ []) $
+      gave ! tt next.ended (next.clauses 𝓤 H A at-mem run) (z u) (λ (r : Answer). r ≡ answerOf d) (λ r ws. id⊢ 𝓤 _) v (λ r e.
       -- [the answer; the token; what the parameters own]
       peeks ! S.the-row (Is S.the-row) (shows 𝓤 H A S.the-row) r (v ∷ []) (λ is. at-once ! $ check ! (LL.lawful S.the-type S′.the-laws 𝓤 H A W .typed r _ is .0) $
-      by ! (ends 𝓤 H A W read.ended (read.clauses 𝓤 H A at-mem run) y tt v r (factI 𝓤 (r ≡ answerOf d) (emp 𝓤) e)))))
+      by ! (ends 𝓤 H A W read.ended (read.clauses 𝓤 H A at-mem run) y tt v r (factI 𝓤 (r ≡ answerOf d) (emp 𝓤) e))))
 
   module _ (C : Calls 𝓤 H) (Λ : Loops 𝓤 H) (fm : FmC 𝓤 H (W .laws) C) (known-new : Triple 𝓤 (C #new) New) (known-next : Triple 𝓤 (C #next) Next) where
     walk : FieldsAre (α κ) d → ent 𝓤 Entry (WpFn 𝓤 H C Λ code.function (flats (α κ) d) Post)

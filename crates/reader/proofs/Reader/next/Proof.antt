@@ -13,11 +13,11 @@ use prog.Wp.{Heap, Calls, Loops, WpFn}
 use ghost.Atoms.{Atoms, sem}
 use contract.Monad.{Fun, factI}
 use contract.Running.{givenOf, tables}
-use types.Kit.{Given, Item, ‵, raw, _⊛_, some, later, _$_, _∵_, !, qed, by, move, drop, use1, use2, split, pick, fsplit, fjoin, frame, await, done, updating, check, now as at-once}
+use types.Kit.{Given, Item, ‵, raw, _⊛_, _$_, _∵_, !, qed, by, move, drop, use1, use2, split, fsplit, fjoin, frame, done, updating, check, now as at-once}
 use sound.WpLaws.{FmC}
 use denote.RattleType.{owns}
 use denote.Laws.{Is, shows}
-use denote.Steps.{peeks, heard, nothing}
+use denote.Steps.{peeks, nothing}
 use denote.Struct.Laws as LL
 use denote.Struct.Struct.{toTys}
 use denote.Triple.Statement.{Contract, Triple}
@@ -31,7 +31,7 @@ use Rattle.segment.proofs.Answer as S
 use Rattle.segment.proofs.Answer.Laws as S′
 use Rattle.reader.proofs.Reader as T
 use Rattle.reader.proofs.Reader.Laws as T′
-use Rattle.reader.proofs.Called.{Callee, tokens, asks, Returned, gives}
+use Rattle.reader.proofs.Called.{Callee, tokens, asks, gave}
 use Rattle.reader.proofs.Held.{α, columns, D, L, R, args, cells, flats, mach, Own, Fields, twice, opened, typed, wt, fields-are}
 use Rattle.reader.proofs.Stands.{stays, goes, ends, framed, stands}
 use Rattle.reader.proofs.Walk.{taker, taken}
@@ -79,10 +79,10 @@ module _ {M : Type 1} (𝓤 : URA M) (H : Heap 𝓤) (A : Atoms 𝓤) (W : Given
   after : (u : Val) → ent 𝓤 (sep 𝓤 (Step .post y u) (sem 𝓤 H A (Own (α κ) d))) (H .⇛ (guard 𝓤 (Holds (hasTy S′.mir u) × WT u) (Post u)))
   after u =
       qed W (raw (Step .post y u) ∷ ‵ (Own (α κ) d) ∷ []) ∵ updating ! $
-      use1 W (later (some (Returned 𝓤 H A step.ended (step.clauses 𝓤 H A at-mem run) y (λ (r : Answer). r ≡ answerOf d) u))) (gives 𝓤 H A step.ended (step.clauses 𝓤 H A at-mem run) y W (λ (r : Answer). r ≡ answerOf d) (λ r ws. id⊢ 𝓤 _) u) $ await ! tt $ pick ! (λ r. split ! $ move ! (1 ∷ []) $ split ! $ move ! (1 ∷ []) $ heard ! (r ≡ answerOf d) (λ e. move ! (1 ∷ []) $ nothing ! $ move ! (3 ∷ 0 ∷ []) $ fjoin ! $ move ! (1 ∷ 2 ∷ []) $
+      gave ! tt step.ended (step.clauses 𝓤 H A at-mem run) y (λ (r : Answer). r ≡ answerOf d) (λ r ws. id⊢ 𝓤 _) u (λ r e. nothing ! $ move ! (3 ∷ 0 ∷ []) $ fjoin ! $ move ! (1 ∷ 2 ∷ []) $
       -- [the answer; the token; what the reader owns]
       peeks ! S.the-row (Is S.the-row) (shows 𝓤 H A S.the-row) r (u ∷ []) (λ is. at-once ! $ check ! (LL.lawful S.the-type S′.the-laws 𝓤 H A W .typed r _ is .0) $
-      by ! (ends 𝓤 H A W next.ended (next.clauses 𝓤 H A at-mem run) (((κ, tt), (q, tt), tt, (d, tt), (mach (α κ) d ∷ [], tt)), tt) tt u r (factI 𝓤 (r ≡ answerOf d) (emp 𝓤) e)))))
+      by ! (ends 𝓤 H A W next.ended (next.clauses 𝓤 H A at-mem run) (((κ, tt), (q, tt), tt, (d, tt), (mach (α κ) d ∷ [], tt)), tt) tt u r (factI 𝓤 (r ≡ answerOf d) (emp 𝓤) e))))
 
   module _ (C : Calls 𝓤 H) (Λ : Loops 𝓤 H) (fm : FmC 𝓤 H (W .laws) C) (known : Triple 𝓤 (C #step) Step) where
     walk : Is (R (α κ)) d (mach (α κ) d ∷ []) → ent 𝓤 Entry (WpFn 𝓤 H C Λ code.function (mach (α κ) d ∷ []) Post)
