@@ -1,91 +1,108 @@
--- The shape of UAX #29's rules: what one says of a place in a text, from what stands before it and from it on.
-use Prim.Native.Nat.{ℕ, zero, suc, _+_}
-use mathlib.Core.Bool.{Bool, true, false, cond, _&&_}
-use mathlib.Core.List.{List, [], _∷_, _++_, reverse}
+-- The vocabulary of UAX #29's rules: what a rule asks of the characters on the two sides of a place, and how a list of rules decides.
+use Prim.Native.Nat.{ℕ, zero, suc, _+_, _-_}
+use mathlib.Core.Bool.{Bool, true, false, cond, not, _&&_, _||_}
+use mathlib.Core.List.{List, [], _∷_}
 use lib.Dec.{eqb}
+use lib.ListN.{length}
 use Rattle.records.specs.Text.{cell}
 use Rattle.records.specs.Refusals.{member}
 
--- a character as the rules see it: the code of its class, and a mark of 0 or 1, read as Extended_Pictographic
+-- a character as the rules see it: the code of its class, and 1 where it is Extended_Pictographic
 pub record Item : Type 0 where
-  pub class : ℕ
+  pub kind : ℕ
   pub mark : ℕ
 
--- ÷, ×, or nothing
-pub data Says : Type 0 where
-  Break : Says
-  Join : Says
-  Silent : Says
+abbrev pub Test : Type 0
+Test = Item → Bool
 
--- a rule: of the items before the place, nearest first, and those from the place on
-abbrev pub Clause : Type 0
-Clause = List Item → List Item → Says
+unfoldable pub is : ℕ → Test
+is k x = eqb (x .kind) k
 
-abbrev pub when : Bool → Says → Says
-when test says = cond test says Silent
+unfoldable pub isNot : ℕ → Test
+isNot k x = not (is k x)
 
-unfoldable pub orElse : Says → Says → Says
-orElse Break later = Break
-orElse Join later = Join
-orElse Silent later = later
-
--- "the first rule that applies"
-abbrev pub firstOf : List Clause → Clause
-firstOf [] before from = Silent
-firstOf (clause ∷ clauses) before from = orElse (clause before from) (firstOf clauses before from)
-
-unfoldable pub isBreak : Says → Bool
-isBreak Break = true
-isBreak Join = false
-isBreak Silent = false
-
--- what a rule names on one side of the sign: a test for each item, in the annex's order
-abbrev pub Side : Type 0
-Side = List (Item → Bool)
-
--- Any
-abbrev pub any : Item → Bool
-any x = true
-
-abbrev pub oneOf : List ℕ → Item → Bool
-oneOf classes x = member classes (x .class)
-
-abbrev pub is : ℕ → Item → Bool
-is class x = oneOf (class ∷ []) x
+-- (A | B | …)
+unfoldable pub among : List ℕ → Test
+among ks x = member ks (x .kind)
 
 -- \p{Extended_Pictographic}
-abbrev pub pictograph : Item → Bool
-pictograph x = eqb (x .mark) 1
+unfoldable pub pictographic : Test
+pictographic x = eqb (x .mark) 1
 
-abbrev pub begins : Side → List Item → Bool
-begins [] items = true
-begins (test ∷ tests) [] = false
-begins (test ∷ tests) (x ∷ items) = test x && begins tests items
+-- One side of a rule, asked of the characters on that side of a place, those nearest to the place first.
+abbrev pub Side : Type 0
+Side = List Item → Bool
+
+-- nothing is asked
+unfoldable pub anything : Side
+anything xs = true
 
 -- sot, eot
-abbrev pub none : List Item → Bool
-none [] = true
-none (x ∷ items) = false
+unfoldable pub edge : Side
+edge [] = true
+edge (x ∷ xs) = false
 
-abbrev pub beside : Side → Side → Says → Clause
-beside left right says before from = when (begins (reverse left) before && begins right from) says
+-- Any
+unfoldable pub any : Side
+any xs = not (edge xs)
 
--- left × right
-abbrev pub joins : Side → Side → Clause
-joins left right = beside left right Join
+-- a character
+unfoldable pub one : Test → Side
+one p [] = false
+one p (x ∷ xs) = p x
 
--- left ÷ right
-abbrev pub parts : Side → Side → Clause
-parts left right = beside left right Break
+-- a character, and q beyond it
+unfoldable pub next : Test → Side → Side
+next p q [] = false
+next p q (x ∷ xs) = p x && q xs
 
--- two columns as items: those before an index, nearest first, and n of them from an index on
+-- p*, and q beyond
+unfoldable pub many : Test → Side → Side
+many p q [] = q []
+many p q (x ∷ xs) = q (x ∷ xs) || (p x && many p q xs)
+
+-- (p p)*, and q beyond
+unfoldable pub pairs : Test → Side → Side
+pairs p q [] = q []
+pairs p q (x ∷ []) = q (x ∷ [])
+pairs p q (x ∷ y ∷ xs) = q (x ∷ y ∷ xs) || (p x && (p y && pairs p q xs))
+
+-- a rule: its two sides, and whether it says ÷, a boundary, or ×, none
+pub record Rule : Type 0 where
+  pub before : Side
+  pub after : Side
+  pub parts : Bool
+
+infixl 10 _÷_
+abbrev pub _÷_ : Side → Side → Rule
+before ÷ after = record { before = before; after = after; parts = true }
+
+infixl 10 _⨯_
+abbrev pub _⨯_ : Side → Side → Rule
+before ⨯ after = record { before = before; after = after; parts = false }
+
+unfoldable pub applies : Rule → List Item → List Item → Bool
+applies r before after = r .before before && r .after after
+
+-- "the first rule that matches": whether a boundary stands at the place between these characters; the empty text has none
+unfoldable pub decide : List Rule → List Item → List Item → Bool
+decide [] before after = false
+decide (r ∷ rs) before after = cond (applies r before after) (r .parts) (decide rs before after)
+
+-- The characters of two columns, the classes and the marks; a mark past the end of its column is no.
 abbrev pub itemAt : List ℕ → List ℕ → ℕ → Item
-itemAt classes marks i = record { class = cell classes i; mark = cell marks i }
+itemAt classes marks i = record { kind = cell classes i; mark = cell marks i }
 
-unfoldable pub itemsBefore : List ℕ → List ℕ → ℕ → List Item
-itemsBefore classes marks zero = []
-itemsBefore classes marks (suc i) = itemAt classes marks i ∷ itemsBefore classes marks i
+-- those before a place
+unfoldable pub beforeOf : List ℕ → List ℕ → ℕ → List Item
+beforeOf classes marks zero = []
+beforeOf classes marks (suc i) = itemAt classes marks i ∷ beforeOf classes marks i
 
+-- n from a place on
 unfoldable pub itemsFrom : List ℕ → List ℕ → ℕ → ℕ → List Item
 itemsFrom classes marks i zero = []
 itemsFrom classes marks i (suc n) = itemAt classes marks i ∷ itemsFrom classes marks (i + 1) n
+
+-- those from a place on
+abbrev pub afterOf : List ℕ → List ℕ → ℕ → List Item
+afterOf classes marks at = itemsFrom classes marks at (length classes - at)
