@@ -1,1 +1,3 @@
-// UAX #29 of Unicode 15.0: its rules as definitions (specs/), and a form of them that runs.
+// The rules of UAX #29 (Unicode 15.0) in an executable form, for the texts on which the parsers are held to them and for the
+// published test files.
+pub mod words;

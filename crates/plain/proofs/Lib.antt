@@ -1,0 +1,3 @@
+pub mod WordsChain
+pub mod WordsRules
+pub mod WordsWalk
