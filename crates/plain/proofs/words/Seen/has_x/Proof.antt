@@ -1,12 +1,12 @@
-use Rattle.plain.proofs.WordsChain.{tests}
 use Rattle.records.proofs.Chain.{not-call}
+use Rattle.plain.proofs.WordsChain.{tests}
 use Rattle.plain.specs.WordsSeen.{hasX}
 use borrow.Author.Needs.{needs}
 use Rattle.plain.proofs.words.Seen.has_x.Statement.{statement}
 use Rattle.plain.proofs.words.Seen.has_x.Tie as tie
 
 returns : tie.Need-returns
-returns c = unfold hasX in search (tests, not-call) depth 8
+returns c = unfold hasX in search tests depth 8
 
 has-requires : tie.Need-has-requires
 has-requires c κs = search needs
