@@ -1,0 +1,2 @@
+pub mod ClustersNeighbours
+pub mod ClustersAfter
