@@ -17,7 +17,7 @@ use Rattle.parse.specs.declared.Info.{Info}
 use Rattle.parse.specs.declared.Flow.{Flow}
 use Rattle.parse.specs.declared.Flow.the-variants.{GoOn, Stop, Full, End}
 use Rattle.parse.specs.State.{tokenAt, placeAfter, turns, isGoing, going, putOf, notedOf, movedOf, onJoiner, hop, stepOf, pushOf, noteOf, goOn, resumedOf, passesEnd}
-use Rattle.parse.specs.Rule.{Rule, Test, stop, push, note, mark, seq, choose, while, part, run, holds}
+use Rattle.parse.specs.Rule.{Rule, Test, skip, stop, push, note, mark, seq, choose, while, part, run, holds}
 use Rattle.parse.proofs.Loop.{false-true, if-intro, by-test, loop-keeps}
 use Rattle.parse.proofs.Moves.{put-same, noted-same, moved-case, step-stays}
 use Rattle.parse.proofs.Keeps.{run-keeps}
@@ -113,6 +113,10 @@ module _ (text : List ℕ) (b : ℕ → Bool) (from : ℕ) where
     pub choose-after : (p : Test) (a c : Rule) {R T : ℕ → Type 0} → (p text (s .at) ≡ true → After text b from R T (run a text s)) → (p text (s .at) ≡ false → After text b from R T (run c text s)) → After text b from R T (run (choose p a c) text s)
     choose-after p a c {R = R} {T = T} f g = choose-case (λ (q : Parse). After text b from R T q) p a c text s
         (λ h. f (sym (holds-at text p s (st .flow)) ∙ h)) (λ h. g (sym (holds-at text p s (st .flow)) ∙ h))
+
+    pub skip-after : {R T : ℕ → Type 0} → R (s .at) → After text b from R T (run skip text s)
+    unfolding run
+    skip-after x = goes st x
 
     pub mark-after : (f : ℕ → Info → Info) {R T : ℕ → Type 0} → R (s .at) → After text b from R T (run (mark f) text s)
     unfolding run

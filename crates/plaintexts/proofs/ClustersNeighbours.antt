@@ -103,17 +103,21 @@ module _ (breaks marks : List ℕ) (i : ℕ) where
       (member (EX ∷ ZWJ ∷ []) (y .kind)) (eqb (y .kind) SM) ((eqb k ZWJ && P breaks marks i) && eqb (y .mark) 1))
       refl refl refl refl refl refl refl (cell breaks i) h
 
-  P-next : P breaks marks (suc i) ≡ (eqb (cell marks i) 1 || (eqb (cell breaks i) EX && P breaks marks i))
+  pub P-next : P breaks marks (suc i) ≡ (eqb (cell marks i) 1 || (eqb (cell breaks i) EX && P breaks marks i))
   unfolding many one is pictographic beforeOf
   P-next = refl
 
-  Z-next : Z breaks marks (suc i) ≡ (eqb (cell breaks i) ZWJ && P breaks marks i)
+  pub Z-next : Z breaks marks (suc i) ≡ (eqb (cell breaks i) ZWJ && P breaks marks i)
   unfolding next is beforeOf
   Z-next = refl
 
 pub P-start : (breaks marks : List ℕ) → P breaks marks 0 ≡ false
 unfolding many one beforeOf
 P-start breaks marks = refl
+
+pub Z-start : (breaks marks : List ℕ) → Z breaks marks 0 ≡ false
+unfolding next beforeOf
+Z-start breaks marks = refl
 
 -- no rule that the parser's last loop does not know joins the character at the place to those before it
 pub record Calm (breaks marks : List ℕ) (j : ℕ) : Type 0 where
@@ -229,8 +233,7 @@ module _ (breaks marks : List ℕ) (plain : Columns breaks marks) where
 
   -- after a ZWJ behind these, at a character that is no pictograph
   pub calm-joined : (j : ℕ) → j < length breaks → Z breaks marks j ≡ true → eqb (cell marks j) 1 ≡ false → Calm breaks marks j
-  unfolding next beforeOf
-  calm-joined zero h z m = absurd (false-true z)
+  calm-joined zero h z m = absurd (false-true (sym (Z-start breaks marks) ∙ z))
   calm-joined (suc i) h z m =
       let zwj : cell breaks i ≡ ZWJ = eqb-true _ _ (and-both _ _ (sym (Z-next breaks marks i) ∙ z) .0) in
       record {
