@@ -79,3 +79,12 @@ rules = GB1 ∷ GB2 ∷ GB3 ∷ GB4 ∷ GB5 ∷ GB6 ∷ GB7 ∷ GB8 ∷ GB9 ∷ 
 -- whether a boundary stands at a place; past the end there is no place
 unfoldable pub boundaryAt : List ℕ → List ℕ → ℕ → Bool
 boundaryAt breaks marks at = cond (ltb (length breaks) at) false (decide rules (beforeOf breaks marks at) (afterOf breaks marks at))
+
+-- of n places from one on, those at which b says so
+unfoldable pub placesFrom : (ℕ → Bool) → ℕ → ℕ → List ℕ
+placesFrom b at zero = []
+placesFrom b at (suc n) = let later = placesFrom b (at + 1) n in cond (b at) (at ∷ later) later
+
+-- the places of all boundaries, but that "the boundary at the text's end is not written"
+abbrev pub boundaries : List ℕ → List ℕ → List ℕ
+boundaries breaks marks = placesFrom (boundaryAt breaks marks) 0 (length breaks)

@@ -1,3 +1,6 @@
+use Prim.Native.Nat.{_-_}
+use mathlib.Core.Path.{_≡_}
+use lib.ListN.{length}
 use borrow.Author.Needs.{needs}
 use Rattle.annex.proofs.print.Statement.{statement}
 use Rattle.annex.proofs.print.Tie as tie
@@ -7,10 +10,10 @@ use Rattle.annex.proofs.sign.Reads as sign-reads
 use Rattle.annex.proofs.write_first.Reads as write-first-reads
 
 abbrev Inv-loop : tie.InvT-loop
-Inv-loop bits n text₀ i₀ text i = ?
+Inv-loop bits n text₀ i₀ text i = length text ≡ 65
 
 abbrev μ-loop : tie.MeasureT-loop
-μ-loop bits n text₀ i₀ text i = ?
+μ-loop bits n text₀ i₀ text i = 64 - i
 
 -- src/main.rt:32:5
 loop-holds : tie.Need-loop-holds Inv-loop μ-loop
@@ -50,7 +53,7 @@ write-first-requires c κs = search needs
 
 -- src/main.rt:29:1
 returns : tie.Need-returns Inv-loop μ-loop
-returns c = ?
+returns c = search needs
 
 pub print-spec : {M : Type 1} → statement M
 print-spec =

@@ -1,0 +1,3 @@
+pub mod ClustersNeighbours
+pub mod ClustersAfter
+pub mod ClustersCall
