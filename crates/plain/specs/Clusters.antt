@@ -1,6 +1,6 @@
 -- UAX #29 of Unicode 15.0, section 3.1.1: the rules GB1 to GB999, each under the annex's own line and in its order, so that a
 -- reviewer reads them against the annex. Written from that document, and not from a parser.
-use Prim.Native.Nat.{ℕ}
+use Prim.Native.Nat.{ℕ, zero, suc, _+_}
 use mathlib.Core.Bool.{Bool, false, cond}
 use mathlib.Core.List.{List, [], _∷_}
 use lib.Dec.{ltb}

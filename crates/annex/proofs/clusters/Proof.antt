@@ -2,10 +2,6 @@ use Prim.Native.Nat.{_-_}
 use borrow.Author.Needs.{needs}
 use Rattle.annex.proofs.clusters.Statement.{statement}
 use Rattle.annex.proofs.clusters.Tie as tie
-use Rattle.annex.proofs.clusters.Reads as reads
-use Rattle.annex.proofs.clusters.Lts as lts
-use Rattle.annex.proofs.bit.Reads as bit-reads
-use Rattle.plain.proofs.clusters.boundary.Reads as boundary-reads
 
 abbrev Inv-loop : tie.InvT-loop
 Inv-loop classes marks bits₀ i₀ bits i = Unit {0}
@@ -13,35 +9,27 @@ Inv-loop classes marks bits₀ i₀ bits i = Unit {0}
 abbrev μ-loop : tie.MeasureT-loop
 μ-loop classes marks bits₀ i₀ bits i = 64 - i
 
--- src/main.rt:17:5
 loop-holds : tie.Need-loop-holds Inv-loop μ-loop
 loop-holds c = search needs
 
--- src/main.rt:18:23
 boundary-requires : tie.Need-boundary-requires Inv-loop μ-loop
 boundary-requires c κs = search needs
 
--- src/main.rt:18:19
 bit-requires : tie.Need-bit-requires Inv-loop μ-loop
 bit-requires c κs = search needs
 
--- src/main.rt:18:9
 element-write-bits : tie.Need-element-write-bits Inv-loop μ-loop
 element-write-bits c = search needs
 
--- src/main.rt:19:9
 add-i : tie.Need-add-i Inv-loop μ-loop
 add-i c = search needs
 
--- src/main.rt:17:5
 loop-less : tie.Need-loop-less Inv-loop μ-loop
 loop-less c = search needs
 
--- src/main.rt:17:5
 loop-again : tie.Need-loop-again Inv-loop μ-loop
 loop-again c = search needs
 
--- src/main.rt:15:1
 returns : tie.Need-returns Inv-loop μ-loop
 returns c = search needs
 

@@ -4,10 +4,6 @@ use lib.ListN.{length}
 use borrow.Author.Needs.{needs}
 use Rattle.annex.proofs.print.Statement.{statement}
 use Rattle.annex.proofs.print.Tie as tie
-use Rattle.annex.proofs.print.Reads as reads
-use Rattle.annex.proofs.print.Lts as lts
-use Rattle.annex.proofs.sign.Reads as sign-reads
-use Rattle.annex.proofs.write_first.Reads as write-first-reads
 
 abbrev Inv-loop : tie.InvT-loop
 Inv-loop bits n text₀ i₀ text i = length text ≡ 65
@@ -15,43 +11,33 @@ Inv-loop bits n text₀ i₀ text i = length text ≡ 65
 abbrev μ-loop : tie.MeasureT-loop
 μ-loop bits n text₀ i₀ text i = 64 - i
 
--- src/main.rt:32:5
 loop-holds : tie.Need-loop-holds Inv-loop μ-loop
 loop-holds c = search needs
 
--- src/main.rt:33:24
 element-copy-out-sign : tie.Need-element-copy-out-sign Inv-loop μ-loop
 element-copy-out-sign c = search needs
 
--- src/main.rt:33:19
 sign-requires : tie.Need-sign-requires Inv-loop μ-loop
 sign-requires c κs = search needs
 
--- src/main.rt:33:9
 array-write-text : tie.Need-array-write-text Inv-loop μ-loop
 array-write-text c = search needs
 
--- src/main.rt:34:9
 add-i : tie.Need-add-i Inv-loop μ-loop
 add-i c = search needs
 
--- src/main.rt:32:5
 loop-less : tie.Need-loop-less Inv-loop μ-loop
 loop-less c = search needs
 
--- src/main.rt:32:5
 loop-again : tie.Need-loop-again Inv-loop μ-loop
 loop-again c = search needs
 
--- src/main.rt:36:17
 slice-aggregate-write-first : tie.Need-slice-aggregate-write-first Inv-loop μ-loop
 slice-aggregate-write-first c = search needs
 
--- src/main.rt:36:5
 write-first-requires : tie.Need-write-first-requires Inv-loop μ-loop
 write-first-requires c κs = search needs
 
--- src/main.rt:29:1
 returns : tie.Need-returns Inv-loop μ-loop
 returns c = search needs
 

@@ -4,27 +4,19 @@ use native.Mathlib.Omega.{arith}
 use borrow.Author.Needs.{needs}
 use Rattle.annex.proofs.write_first.Statement.{statement}
 use Rattle.annex.proofs.write_first.Tie as tie
-use Rattle.annex.proofs.write_first.Reads as reads
-use Rattle.annex.proofs.write_first.Lts as lts
-use Rattle.io.proofs.write_all.Reads as write-all-reads
 
--- src/main.rt:43:46
 add-write-all : tie.Need-add-write-all
 add-write-all c = search needs
 
--- src/main.rt:43:38
 slice-aggregate-write-all : tie.Need-slice-aggregate-write-all
 slice-aggregate-write-all c = sym (length-take-le _ _ (omega arith))
 
--- src/main.rt:43:9
 write-all-requires : tie.Need-write-all-requires
 write-all-requires c κs = search needs
 
--- src/main.rt:41:1
 returns : tie.Need-returns
 returns c = search needs
 
--- src/main.rt:41:1
 returns-2 : tie.Need-returns-2
 returns-2 c = search needs
 
