@@ -59,7 +59,7 @@ in-case : (P : ℕ → Type 0) (ks : List ℕ) (x : ℕ) → member ks x ≡ tru
 in-case P [] x h all = absurd (false≢true h)
 in-case P (k ∷ ks) x h all = or-case P k x (eqb x k) (member ks x) refl h (all .0) (λ q. in-case P ks x q (all .1))
 
-and-both : (a b : Bool) → (a && b) ≡ true → (a ≡ true) × (b ≡ true)
+pub and-both : (a b : Bool) → (a && b) ≡ true → (a ≡ true) × (b ≡ true)
 and-both true b h = (refl, h)
 and-both false b h = absurd (false≢true h)
 
@@ -76,7 +76,7 @@ by-exit : (s : WordState) (b : ℕ) (r : WordStep) (t : Bool) (x later : Exit) �
 by-exit s b r true x later f g = f refl
 by-exit s b r false x later f g = g refl
 
-told-same : (b : ℕ) (v v′ : Bool) (w w′ x x′ : ℕ) → v′ ≡ v → w′ ≡ w → x′ ≡ x → told b v w x ≡ told b v′ w′ x′
+pub told-same : (b : ℕ) (v v′ : Bool) (w w′ x x′ : ℕ) → v′ ≡ v → w′ ≡ w → x′ ≡ x → told b v w x ≡ told b v′ w′ x′
 told-same b v v′ w w′ x x′ e f g = rw (e, f, g)
 
 either-case : (A : Type 0) (a b : Bool) → (a || b) ≡ true → (a ≡ true → A) → (a ≡ false → b ≡ true → A) → A
@@ -211,16 +211,17 @@ module _ (o : Bool) (p c : ℕ) where
   released-exit far a b h =
       either-case (Releases far a b) (both MidLetters a Letters far && holds Letters b) _ h
       (λ l. let k = and-both (both MidLetters a Letters far) (holds Letters b) l in
-            let m = and-both (holds MidLetters a) (holds Letters far) (k .0) in
-            in-case (λ w. Releases w a b) AHLetter far (m .1)
-            ( set-case (Releases ALetter) midLetters AHLetter a b (m .0) (k .1) ((refl, (refl, tt)), ((refl, (refl, tt)), ((refl, (refl, tt)), tt)))
-            , (set-case (Releases HL) midLetters AHLetter a b (m .0) (k .1) ((refl, (refl, tt)), ((refl, (refl, tt)), ((refl, (refl, tt)), tt))), tt)))
+      let m = and-both (holds MidLetters a) (holds Letters far) (k .0) in
+      in-case (λ w. Releases w a b) AHLetter far (m .1) (
+        set-case (Releases ALetter) midLetters AHLetter a b (m .0) (k .1) ((refl, (refl, tt)), ((refl, (refl, tt)), ((refl, (refl, tt)), tt))),
+        (set-case (Releases HL) midLetters AHLetter a b (m .0) (k .1) ((refl, (refl, tt)), ((refl, (refl, tt)), ((refl, (refl, tt)), tt))), tt),
+      ))
       (λ n r. either-case (Releases far a b) (both (Only DQ) a (Only HL) far && holds (Only HL) b) _ r
       (λ l. let k = and-both (both (Only DQ) a (Only HL) far) (holds (Only HL) b) l in
-            pair-case (λ x w. Releases w x b) DQ HL a far (k .0) (eq-case (Releases HL DQ) b HL (k .1) refl))
+      pair-case (λ x w. Releases w x b) DQ HL a far (k .0) (eq-case (Releases HL DQ) b HL (k .1) refl))
       (λ n′ l. let k = and-both (both MidNumbers a (Only NU) far) (holds (Only NU) b) l in
-               let m = and-both (holds MidNumbers a) (holds (Only NU) far) (k .0) in
-               eq-case (λ w. Releases w a b) far NU (m .1) (eq-case (Releases NU a) b NU (k .1) (in-case (λ x. Releases NU x NU) midNumbers a (m .0) (refl, (refl, (refl, tt)))))))
+      let m = and-both (holds MidNumbers a) (holds (Only NU) far) (k .0) in
+      eq-case (λ w. Releases w a b) far NU (m .1) (eq-case (Releases NU a) b NU (k .1) (in-case (λ x. Releases NU x NU) midNumbers a (m .0) (refl, (refl, (refl, tt)))))))
 
   -- where no exit above those of RI is taken
   module _ (far a b : ℕ) (nh : held far a b ≡ false) (n1 : (eqb a CR && eqb b LF) ≡ false) (n2 : (member newlines a || member newlines b) ≡ false) (n3 : (eqb a ZWJ && eqb p 1) ≡ false) (n4 : member ignored b ≡ false)
