@@ -1,3 +1,4 @@
 pub mod ClustersNeighbours
 pub mod ClustersAfter
 pub mod ClustersCall
+pub mod ClustersPlain
