@@ -2,3 +2,4 @@ pub mod ClustersNeighbours
 pub mod ClustersAfter
 pub mod ClustersCall
 pub mod ClustersPlain
+pub mod ClustersDiffer

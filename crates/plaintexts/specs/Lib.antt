@@ -1,1 +1,2 @@
 pub mod Clusters
+pub mod ClustersDifferences
