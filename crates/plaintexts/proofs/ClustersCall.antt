@@ -89,7 +89,7 @@ module _ (stream breaks marks : List ℕ) (shows : Shows stream breaks marks) (p
     emoji-is : isEmoji stream j ≡ eqb (cell marks j) 1
     emoji-is = ap (λ x. eqb x 1) (shows .emoji j in-columns)
 
-    extension-is : isExtension stream j ≡ member extensions (cell breaks j)
+    pub extension-is : isExtension stream j ≡ member extensions (cell breaks j)
     unfolding isExtension oneOf
     extension-is = ap (λ x. cond (eqb x EX) true (cond (eqb x SM) true (cond (eqb x ZWJ) true false))) (shows .kind j in-columns) ∙ three (eqb (cell breaks j) EX) (eqb (cell breaks j) SM) (eqb (cell breaks j) ZWJ)
 
