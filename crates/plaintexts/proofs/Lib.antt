@@ -2,6 +2,6 @@ pub mod ClustersNeighbours
 pub mod ClustersAfter
 pub mod ClustersCall
 pub mod ClustersPlain
-pub mod ClustersDiffer
 pub mod WordsStep
 pub mod WordsPlain
+pub mod Differ

@@ -1,3 +1,3 @@
 pub mod Clusters
-pub mod ClustersDifferences
 pub mod Words
+pub mod Differences
