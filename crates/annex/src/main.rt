@@ -1,5 +1,6 @@
 // The lines of the published break test files, answered by the rules of UAX #29: `G` for clusters and `W` for words, then the class and
-// the mark of each character (`W;8,0 11,0 8,0`). The answer has 1 for each character that a boundary stands before, else 0.
+// the mark of each character (`W;8,0 11,0 8,0`). The answer has 1 for each character that a boundary stands before, else 0; to any
+// other line it is `?`.
 use cases::Kind;
 use cases::Number;
 use libc::STDIN_FILENO;
@@ -43,6 +44,10 @@ fn write_first(text: &[u8], n: usize) {
     }
 }
 
+fn not_of_layout() {
+    io::write_all(STDOUT_FILENO, b"?\n");
+}
+
 fn answer_items(kind: u8, section: &[u8], items: usize) {
     let mut classes = [0u8; 64];
     let mut marks = [0u8; 64];
@@ -57,11 +62,24 @@ fn answer_items(kind: u8, section: &[u8], items: usize) {
     print(&bits, n);
 }
 
+fn answer_kind(kind: u8, section: &[u8], items: u32) {
+    if 64 < items {
+        not_of_layout();
+        return;
+    }
+    if kind == b'G' || kind == b'W' {
+        answer_items(kind, section, items as usize);
+    } else {
+        not_of_layout();
+    }
+}
+
 fn answer(line: &[u8]) {
     let kind = cases::sign(cases::part(line, b';', 0));
     let section = cases::part(line, b';', 1);
-    if let Number::Value(items) = cases::count_items(section, Kind::Word) {
-        answer_items(kind, section, items as usize);
+    match cases::count_items(section, Kind::Word) {
+        Number::Value(items) => answer_kind(kind, section, items),
+        Number::Nothing => not_of_layout(),
     }
 }
 
