@@ -34,9 +34,9 @@ use Rattle.segment.specs.Runs.{callsFrom}
 use Rattle.segment.proofs.Progress.{progress}
 use Rattle.segment.proofs.Turns.{call-within}
 use Rattle.segment.proofs.Laws.{accepted-short}
-use Rattle.plain.specs.Clusters.{applies, decide, edge, any, GB1, beforeOf, boundaryAt, placesFrom, boundaries}
+use Rattle.plain.specs.Clusters.{controls, applies, decide, edge, any, GB1, beforeOf, boundaryAt, placesFrom, boundaries}
 use Rattle.plain.proofs.ClustersSides.{some-after}
-use Rattle.plaintexts.specs.Clusters.{plainKinds, controls, extensions, plainMark, plainPair, plainAt, every, allShort, isPlain, startsFrom, clusterStarts}
+use Rattle.plaintexts.specs.Clusters.{plainKinds, extensions, plainMark, plainPair, plainAt, every, allShort, isPlain, startsFrom, clusterStarts}
 use Rattle.plaintexts.proofs.ClustersNeighbours.{and-both, Columns, Calm, calm-parts}
 use Rattle.plaintexts.proofs.ClustersAfter.{Joined, After, full, over, halted, goes}
 use Rattle.plaintexts.proofs.ClustersCall.{Shows, Nowhere, extension-is, call-after}

@@ -14,12 +14,10 @@ use Rattle.tokens.specs.Tokens.{streamOf}
 use Rattle.parse.specs.declared.Parse.{Parse}
 use Rattle.parse.specs.State.{placeOf}
 use Rattle.segment.specs.Runs.{callsOf}
+use Rattle.plain.specs.Clusters.{controls}
 
 abbrev pub plainKinds : List ℕ
 plainKinds = XX ∷ EX ∷ SM ∷ ZWJ ∷ CR ∷ LF ∷ CN ∷ []
-
-abbrev pub controls : List ℕ
-controls = CR ∷ LF ∷ CN ∷ []
 
 abbrev pub extensions : List ℕ
 extensions = EX ∷ SM ∷ ZWJ ∷ []
