@@ -2,4 +2,5 @@ pub mod ClustersNeighbours
 pub mod ClustersAfter
 pub mod ClustersCall
 pub mod ClustersPlain
+pub mod ClustersNumbers
 pub mod ClustersDiffer
