@@ -33,6 +33,7 @@ pub record Stands (text : List ℕ) (b : ℕ → Bool) (from : ℕ) (f : Flow) (
   pub flow : s .flow ≡ f
   pub done : s .done ≡ false
   pub joins : s .joins ≡ false
+  pub again : s .again ≡ false
   pub inside : s .at < length text
   pub later : from ≤ s .at
   pub past : Joined b from (s .at)
@@ -41,6 +42,7 @@ pub record Stands (text : List ℕ) (b : ℕ → Bool) (from : ℕ) (f : Flow) (
 pub record Over (text : List ℕ) (b : ℕ → Bool) (from : ℕ) (s : Parse) : Type 0 where
   pub flow : s .flow ≡ End
   pub done : s .done ≡ true
+  pub again : s .again ≡ false
   pub past : Joined b from (length text)
 
 -- where a rule leaves a call: at 32 characters, at the end, stopped at a place of which S holds, or at one of which Q holds
@@ -121,13 +123,13 @@ module _ (text : List ℕ) (b : ℕ → Bool) (from : ℕ) where
     pub mark-after : (f : ℕ → Info → Info) {R T : ℕ → Type 0} → R (s .at) → After text b from R T (run (mark f) text s)
     unfolding run
     mark-after f {R = R} {T = T} x = if-intro (λ (q : Parse). After text b from R T q) (going s) _ _
-        (λ g. goes (record { flow = st .flow; done = st .done; joins = st .joins; inside = st .inside; later = st .later; past = st .past }) x)
+        (λ g. goes (record { flow = st .flow; done = st .done; joins = st .joins; again = st .again; inside = st .inside; later = st .later; past = st .past }) x)
         (λ g. absurd (false-true (sym g ∙ goes-on)))
 
     pub stop-after : {R T : ℕ → Type 0} → T (s .at) → After text b from R T (run stop text s)
     unfolding run
     stop-after {R = R} {T = T} x = if-intro (λ (q : Parse). After text b from R T q) (going s) _ _
-        (λ g. halted (record { flow = refl; done = st .done; joins = st .joins; inside = st .inside; later = st .later; past = st .past }) x)
+        (λ g. halted (record { flow = refl; done = st .done; joins = st .joins; again = st .again; inside = st .inside; later = st .later; past = st .past }) x)
         (λ g. absurd (false-true (sym g ∙ goes-on)))
 
     module _ (may : (s .at ≡ from) ⊎ (b (s .at) ≡ false)) where
@@ -139,8 +141,8 @@ module _ (text : List ℕ) (b : ℕ → Bool) (from : ℕ) where
           (eq-or-lt-of-le (let d : k ≤ s .at = omega arith in d))
 
       -- off it, where q is s with the token pushed or noted
-      step-after : (q : Parse) {R T : ℕ → Type 0} → q .flow ≡ s .flow → q .done ≡ s .done → q .joins ≡ s .joins → q .at ≡ s .at → (s .at + 1 < length text → R (s .at + 1)) → After text b from R T (stepOf text q)
-      step-after q {R = R} {T = T} ef ed ej ea r =
+      step-after : (q : Parse) {R T : ℕ → Type 0} → q .flow ≡ s .flow → q .done ≡ s .done → q .joins ≡ s .joins → q .again ≡ s .again → q .at ≡ s .at → (s .at + 1 < length text → R (s .at + 1)) → After text b from R T (stepOf text q)
+      step-after q {R = R} {T = T} ef ed ej eg ea r =
           let m : Parse = movedOf (length text) q in
           let mj : m .joins ≡ false = moved-case (λ u. u .joins ≡ false) (length text) q (λ l h. ej ∙ st .joins) (λ l h. ej ∙ st .joins) (λ l. ej ∙ st .joins) in
           subst (λ (u : Parse). After text b from R T u) (step-stays text q m refl (no-joiner (going m) (m .joins) _ mj))
@@ -149,11 +151,12 @@ module _ (text : List ℕ) (b : ℕ → Bool) (from : ℕ) where
             flow = ef ∙ st .flow;
             done = ed ∙ st .done;
             joins = ej ∙ st .joins;
+            again = eg ∙ st .again;
             inside = h;
             later = omega (arith, st .later);
             past = λ k d e. past-here k d (omega arith);
           }) (subst R (ap (λ i. i + 1) (sym ea)) (r (omega arith))))
-          (λ l h. over (record { flow = refl; done = refl; past = λ k d e. past-here k d (let n : placeAfter (length text) (q .at) ≡ q .at + 1 = rw (lt-ltb (q .at) (length text) (omega (arith, st .inside))) in omega arith) }))
+          (λ l h. over (record { flow = refl; done = refl; again = eg ∙ st .again; past = λ k d e. past-here k d (let n : placeAfter (length text) (q .at) ≡ q .at + 1 = rw (lt-ltb (q .at) (length text) (omega (arith, st .inside))) in omega arith) }))
           (λ l. full l))
 
       pub push-after : (f : ℕ → Shape) {R T : ℕ → Type 0} → (s .at + 1 < length text → R (s .at + 1)) → After text b from R T (run (push f) text s)
@@ -163,7 +166,7 @@ module _ (text : List ℕ) (b : ℕ → Bool) (from : ℕ) where
           if-intro (λ (q : Parse). After text b from R T q) (going s) _ _
           (λ g. step-after (putOf t (f t) s)
           (put-same (λ (q : Parse). q .flow) (λ n cs q. refl) t s (f t)) (put-same (λ (q : Parse). q .done) (λ n cs q. refl) t s (f t))
-          (put-same (λ (q : Parse). q .joins) (λ n cs q. refl) t s (f t)) (put-same (λ (q : Parse). q .at) (λ n cs q. refl) t s (f t)) r)
+          (put-same (λ (q : Parse). q .joins) (λ n cs q. refl) t s (f t)) (put-same (λ (q : Parse). q .again) (λ n cs q. refl) t s (f t)) (put-same (λ (q : Parse). q .at) (λ n cs q. refl) t s (f t)) r)
           (λ g. absurd (false-true (sym g ∙ goes-on)))
 
       pub note-after : {R T : ℕ → Type 0} → (s .at + 1 < length text → R (s .at + 1)) → After text b from R T (run note text s)
@@ -173,7 +176,7 @@ module _ (text : List ℕ) (b : ℕ → Bool) (from : ℕ) where
           if-intro (λ (q : Parse). After text b from R T q) (going s) _ _
           (λ g. step-after (notedOf t s)
           (noted-same (λ (q : Parse). q .flow) (λ n cs q. refl) t s) (noted-same (λ (q : Parse). q .done) (λ n cs q. refl) t s)
-          (noted-same (λ (q : Parse). q .joins) (λ n cs q. refl) t s) (noted-same (λ (q : Parse). q .at) (λ n cs q. refl) t s) r)
+          (noted-same (λ (q : Parse). q .joins) (λ n cs q. refl) t s) (noted-same (λ (q : Parse). q .again) (λ n cs q. refl) t s) (noted-same (λ (q : Parse). q .at) (λ n cs q. refl) t s) r)
           (λ g. absurd (false-true (sym g ∙ goes-on)))
 
   -- a loop: I holds before every turn
@@ -195,9 +198,9 @@ module _ (text : List ℕ) (b : ℕ → Bool) (from : ℕ) where
   -- a part: a stop in it ends it alone
   resumed-after : (q : Parse) {Q S R T : ℕ → Type 0} → After text b from Q S q → ((j : ℕ) → j < length text → Q j → R j) → ((j : ℕ) → j < length text → S j → R j) → After text b from R T (resumedOf q)
   resumed-after q (full l) f g = full l
-  resumed-after q (over o) f g = over (record { flow = ap goOn (o .flow); done = o .done; past = o .past })
-  resumed-after q (halted st x) f g = goes (record { flow = ap goOn (st .flow); done = st .done; joins = st .joins; inside = st .inside; later = st .later; past = st .past }) (g (q .at) (st .inside) x)
-  resumed-after q (goes st x) f g = goes (record { flow = ap goOn (st .flow); done = st .done; joins = st .joins; inside = st .inside; later = st .later; past = st .past }) (f (q .at) (st .inside) x)
+  resumed-after q (over o) f g = over (record { flow = ap goOn (o .flow); done = o .done; again = o .again; past = o .past })
+  resumed-after q (halted st x) f g = goes (record { flow = ap goOn (st .flow); done = st .done; joins = st .joins; again = st .again; inside = st .inside; later = st .later; past = st .past }) (g (q .at) (st .inside) x)
+  resumed-after q (goes st x) f g = goes (record { flow = ap goOn (st .flow); done = st .done; joins = st .joins; again = st .again; inside = st .inside; later = st .later; past = st .past }) (f (q .at) (st .inside) x)
 
   pub part-after : (a : Rule) (s : Parse) {Q S R T : ℕ → Type 0} → Stands text b from GoOn s → After text b from Q S (run a text s) → ((j : ℕ) → j < length text → Q j → R j) → ((j : ℕ) → j < length text → S j → R j) → After text b from R T (run (part a) text s)
   unfolding run

@@ -262,7 +262,7 @@ module _ (stream breaks marks : List ℕ) (shows : Shows stream breaks marks) (p
   unfolding cluster
   call-after mode =
       let s : Parse = begin (record { at = from }) mode false in
-      let on : On s = record { flow = refl; done = refl; joins = refl; inside = inside; later = le-refl _; past = λ k l h. absurd (omega arith) } in
+      let on : On s = record { flow = refl; done = refl; joins = refl; again = refl; inside = inside; later = le-refl _; past = λ k l h. absurd (omega arith) } in
       seq-after stream b from (manyAs PP Base) _ s
       (while-after stream b from (is PP) (take Base) (λ j. j ≡ from) Nowhere
       (λ q onq e h. absurd (false-true (sym (never (q .at) (onq .inside) (λ k. eqb k PP) refl refl refl refl refl refl refl) ∙ h))) refl s on refl)

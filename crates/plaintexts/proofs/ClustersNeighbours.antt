@@ -12,9 +12,9 @@ use Rattle.classes.specs.ClusterBreak.{XX, CN, CR, LF, EX, SM, ZWJ}
 use Rattle.records.specs.Text.{cell}
 use Rattle.records.specs.Refusals.{member}
 use Rattle.parse.proofs.Loop.{false-true, by-test}
-use Rattle.plain.specs.Clusters.{Item, is, isNot, among, pictographic, anything, edge, any, one, next, many, pairs, applies, decide, rules, itemAt, beforeOf, itemsFrom, afterOf, boundaryAt, GB1, GB2, GB3, GB4, GB5, GB6, GB7, GB8, GB9, GB9a, GB9b, GB11, GB12, GB13, GB999}
+use Rattle.plain.specs.Clusters.{controls, Item, is, isNot, among, pictographic, anything, edge, any, one, next, many, pairs, applies, decide, rules, itemAt, beforeOf, itemsFrom, afterOf, boundaryAt, GB1, GB2, GB3, GB4, GB5, GB6, GB7, GB8, GB9, GB9a, GB9b, GB11, GB12, GB13, GB999}
 use Rattle.plain.proofs.ClustersSides.{some-after}
-use Rattle.plaintexts.specs.Clusters.{plainKinds, controls, extensions, plainMark, plainPair, plainAt}
+use Rattle.plaintexts.specs.Clusters.{plainKinds, extensions}
 
 -- a kind that is j, or one of the others
 or-case : (P : ℕ → Type 0) (k j : ℕ) {others : Bool} → (eqb k j || others) ≡ true → P j → (others ≡ true → P k) → P k
@@ -94,12 +94,12 @@ module _ (crlf after before extends spaces joins : Bool) where
 module _ (breaks marks : List ℕ) (i : ℕ) where
   decide-plain : (y : Item) (ys : List Item) → member plainKinds (cell breaks i) ≡ true →
       decide rules (beforeOf breaks marks (suc i)) (y ∷ ys)
-      ≡ says (eqb (cell breaks i) CR && eqb (y .kind) LF) (member controls (cell breaks i)) (member (CN ∷ CR ∷ LF ∷ []) (y .kind))
+      ≡ says (eqb (cell breaks i) CR && eqb (y .kind) LF) (member controls (cell breaks i)) (member controls (y .kind))
       (member (EX ∷ ZWJ ∷ []) (y .kind)) (eqb (y .kind) SM) (Z breaks marks (suc i) && eqb (y .mark) 1)
   unfolding decide applies beforeOf GB1 GB2 GB3 GB4 GB5 GB6 GB7 GB8 GB9 GB9a GB9b GB11 GB12 GB13 GB999 is isNot among pictographic anything edge any one next says
   decide-plain y ys h = kind-case
       (λ k. decide rules (record { kind = k; mark = cell marks i } ∷ beforeOf breaks marks i) (y ∷ ys)
-      ≡ says (eqb k CR && eqb (y .kind) LF) (member controls k) (member (CN ∷ CR ∷ LF ∷ []) (y .kind))
+      ≡ says (eqb k CR && eqb (y .kind) LF) (member controls k) (member controls (y .kind))
       (member (EX ∷ ZWJ ∷ []) (y .kind)) (eqb (y .kind) SM) ((eqb k ZWJ && P breaks marks i) && eqb (y .mark) 1))
       refl refl refl refl refl refl refl (cell breaks i) h
 
@@ -132,7 +132,7 @@ module _ (breaks marks : List ℕ) (plain : Columns breaks marks) where
     here = cell breaks (suc i)
 
     boundary-says : boundaryAt breaks marks (suc i)
-        ≡ says (eqb (cell breaks i) CR && eqb here LF) (member controls (cell breaks i)) (member (CN ∷ CR ∷ LF ∷ []) here)
+        ≡ says (eqb (cell breaks i) CR && eqb here LF) (member controls (cell breaks i)) (member controls here)
         (member (EX ∷ ZWJ ∷ []) here) (eqb here SM) (Z breaks marks (suc i) && eqb (cell marks (suc i)) 1)
     unfolding boundaryAt
     boundary-says = rw (le-ltb (length breaks) (suc i) (omega arith))
@@ -143,8 +143,8 @@ module _ (breaks marks : List ℕ) (plain : Columns breaks marks) where
     pub extension-joins : member extensions here ≡ true → boundaryAt breaks marks (suc i) ≡ false
     extension-joins e = boundary-says ∙ says-extends _ _ _ _ _ _ (told .0) (plain .pair i h e) (told .1) (told .2)
       where
-        told : ((eqb (cell breaks i) CR && eqb here LF) ≡ false) × (member (CN ∷ CR ∷ LF ∷ []) here ≡ false) × ((member (EX ∷ ZWJ ∷ []) here || eqb here SM) ≡ true)
-        told = extension-case (λ k. ((eqb (cell breaks i) CR && eqb k LF) ≡ false) × (member (CN ∷ CR ∷ LF ∷ []) k ≡ false) × ((member (EX ∷ ZWJ ∷ []) k || eqb k SM) ≡ true))
+        told : ((eqb (cell breaks i) CR && eqb here LF) ≡ false) × (member controls here ≡ false) × ((member (EX ∷ ZWJ ∷ []) here || eqb here SM) ≡ true)
+        told = extension-case (λ k. ((eqb (cell breaks i) CR && eqb k LF) ≡ false) × (member controls k ≡ false) × ((member (EX ∷ ZWJ ∷ []) k || eqb k SM) ≡ true))
             (and-false (eqb (cell breaks i) CR), refl, refl) (and-false (eqb (cell breaks i) CR), refl, refl) (and-false (eqb (cell breaks i) CR), refl, refl) here e
 
     -- GB3

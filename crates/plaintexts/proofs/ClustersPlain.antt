@@ -13,6 +13,7 @@ use lib.ListN.{length, drop, getD}
 use borrow.Author.Tests.{eqb-true, ltb-true, ltb-false, le-ltb}
 use Rattle.classes.specs.ClusterBreak.{XX}
 use Rattle.classes.specs.declared.Mode.{Mode}
+use Rattle.classes.specs.declared.Mode.the-variants.{Crate, Whole}
 use Rattle.records.specs.Text.{Text, cell, recordLengths}
 use Rattle.records.specs.Refusals.{member, uneven, verdict}
 use Rattle.records.specs.Refusals as Refusals
@@ -20,13 +21,15 @@ use Rattle.records.specs.Sound.{Sound}
 use Rattle.records.specs.declared.Parser.the-variants.{Simple}
 use Rattle.records.specs.declared.Verdict.the-variants.{Accepted}
 use Rattle.records.proofs.Accepted.{accepted-sound}
-use Rattle.token.specs.Token.{kindOf, breakOf, emojiOf}
+use Rattle.token.specs.Token.{kindOf, breakOf, emojiOf, indexOf}
 use Rattle.token.proofs.Fields.{Says}
 use Rattle.tokens.specs.Tokens.{Source, sourceOf, ownToken, itself, gather, streamOf}
 use Rattle.tokens.proofs.Accepted.{simple-says}
 use Rattle.tokens.proofs.Stream.{length-records}
 use Rattle.parse.specs.declared.Parse.{Parse}
+use Rattle.parse.specs.declared.Flow.the-variants.{GoOn, End}
 use Rattle.parse.specs.State.{tokenAt, placeOf}
+use Rattle.parse.specs.Cover.{repeatsOf, repeats}
 use Rattle.parse.proofs.Loop.{false-true, by-test}
 use Rattle.simple.specs.Grammar.{isExtension}
 use Rattle.segment.specs.Calls.{grammar, called}
@@ -34,9 +37,9 @@ use Rattle.segment.specs.Runs.{callsFrom}
 use Rattle.segment.proofs.Progress.{progress}
 use Rattle.segment.proofs.Turns.{call-within}
 use Rattle.segment.proofs.Laws.{accepted-short}
-use Rattle.plain.specs.Clusters.{applies, decide, edge, any, GB1, beforeOf, boundaryAt, placesFrom, boundaries}
+use Rattle.plain.specs.Clusters.{controls, applies, decide, edge, any, GB1, beforeOf, boundaryAt, placesFrom, boundaries}
 use Rattle.plain.proofs.ClustersSides.{some-after}
-use Rattle.plaintexts.specs.Clusters.{plainKinds, controls, extensions, plainMark, plainPair, plainAt, every, allShort, isPlain, startsFrom, clusterStarts}
+use Rattle.plaintexts.specs.Clusters.{plainKinds, extensions, plainMark, plainPair, plainAt, every, allShort, isPlain, startsFrom, clusterStarts}
 use Rattle.plaintexts.proofs.ClustersNeighbours.{and-both, Columns, Calm, calm-parts}
 use Rattle.plaintexts.proofs.ClustersAfter.{Joined, After, full, over, halted, goes}
 use Rattle.plaintexts.proofs.ClustersCall.{Shows, Nowhere, extension-is, call-after}
@@ -88,6 +91,10 @@ module _ (mode : Mode) (t : Text) (accepted : verdict Simple t ≡ Accepted) whe
     own-says : Says (ownToken source (cell (t .records .semojis) i) i) (cell (t .records .scalars) i) (cell (t .records .breaks) i) (cell (t .records .breaks) i) (cell (t .records .categories) i) (cell (t .records .semojis) i) (cell (t .records .selectors) i) i
     own-says = simple-says Simple t sound i (omega (arith, same-length))
 
+  -- a token knows its record
+  pub stream-index : (i : ℕ) → i < length (t .records .breaks) → indexOf (tokenAt (streamOf mode Simple t) i) ≡ i
+  stream-index i h = ap indexOf (own-token i h) ∙ own-says i h .its-index
+
   pub stream-shows : Shows (streamOf mode Simple t) (t .records .breaks) (t .records .semojis)
   stream-shows = record {
     size = stream-length;
@@ -119,7 +126,7 @@ plain-at breaks marks i e =
     let second = and-both (plainMark (cell breaks i) (cell marks i)) (plainPair (cell breaks i) (cell breaks (i + 1))) (first .1) in
     (first .0, second .0, second .1)
 
-plain-columns : (breaks marks : List ℕ) → every (plainAt breaks marks) (length breaks) ≡ true → Columns breaks marks
+pub plain-columns : (breaks marks : List ℕ) → every (plainAt breaks marks) (length breaks) ≡ true → Columns breaks marks
 unfolding plainPair
 plain-columns breaks marks e = record {
   kind = λ i h. plain-at breaks marks i (every-at (plainAt breaks marks) (length breaks) i e h) .0;
@@ -131,7 +138,7 @@ plain-columns breaks marks e = record {
 -- # One call
 
 -- GB1
-starts-at-0 : (breaks marks : List ℕ) → 0 < length breaks → boundaryAt breaks marks 0 ≡ true
+pub starts-at-0 : (breaks marks : List ℕ) → 0 < length breaks → boundaryAt breaks marks 0 ≡ true
 unfolding boundaryAt decide applies beforeOf GB1 edge any
 starts-at-0 breaks marks h = rw (le-ltb (length breaks) 0 (omega arith), some-after breaks marks 0 h)
 
@@ -142,6 +149,21 @@ module _ (mode : Mode) (stream breaks marks : List ℕ) (short : length stream �
   -- a call that passed a token and has fewer than 32 characters ends at the end of the text or at a boundary, and passes none
   abbrev Ends : ℕ → ℕ → Type 0
   Ends from to = Joined b from to × (to < length stream → b to ≡ true)
+
+  -- and repeats no token
+  no-repeat : (from : ℕ) (Q : ℕ → Type 0) (p : Parse) → After stream b from Q Nowhere p → p .len < 32 → repeats p ≡ 0
+  no-repeat from Q p (full l) h = absurd (omega arith)
+  no-repeat from Q p (over o) h = ap (λ f. repeatsOf (p .mode) f (p .again)) (o .flow) ∙ ap (repeatsOf (p .mode) End) (o .again) ∙ go (p .mode)
+    where
+      go : (m : Mode) → repeatsOf m End false ≡ 0
+      go Crate = refl
+      go Whole = refl
+  no-repeat from Q p (halted st x) h = absurd x
+  no-repeat from Q p (goes st x) h = ap (λ f. repeatsOf (p .mode) f (p .again)) (st .flow) ∙ go (p .mode)
+    where
+      go : (m : Mode) → repeatsOf m GoOn (p .again) ≡ 0
+      go Crate = refl
+      go Whole = refl
 
   module _ (from : ℕ) (inside : from < length stream) (starts : b from ≡ true) where
     parts-at : (j : ℕ) → from < j → j < length stream → Calm breaks marks j → isExtension stream j ≡ false → b j ≡ true
@@ -162,6 +184,10 @@ module _ (mode : Mode) (stream breaks marks : List ℕ) (short : length stream �
     pub call-plain : (called Simple mode stream from) .len < 32 → Ends from (placeOf stream (called Simple mode stream from))
     unfolding called grammar
     call-plain h = ends-at (called Simple mode stream from) (call-after stream breaks marks shows plain from inside starts mode) h (progress Simple mode stream short from inside)
+
+    pub call-once-only : (called Simple mode stream from) .len < 32 → repeats (called Simple mode stream from) ≡ 0
+    unfolding called grammar
+    call-once-only h = no-repeat from _ (called Simple mode stream from) (call-after stream breaks marks shows plain from inside starts mode) h
 
 -- # All calls
 
@@ -195,15 +221,15 @@ module _ (c : ℕ → Bool) where
       ∙ ap (λ ps. from ∷ ps) (pass-over (to - from - 1) (n - to) (from + 1) (λ k a d. j k (omega arith) (omega arith)) ∙ ap (λ i. placesFrom c i (n - to)) q)
 
 module _ (mode : Mode) (stream : List ℕ) (n at : ℕ) where
-  calls-more : ltb at (length stream) ≡ true → callsFrom Simple mode stream (suc n) at ≡ called Simple mode stream at ∷ callsFrom Simple mode stream n (placeOf stream (called Simple mode stream at))
+  pub calls-more : ltb at (length stream) ≡ true → callsFrom Simple mode stream (suc n) at ≡ called Simple mode stream at ∷ callsFrom Simple mode stream n (placeOf stream (called Simple mode stream at))
   unfolding callsFrom
   calls-more e = rw e
 
-  calls-none : callsFrom Simple mode stream 0 at ≡ []
+  pub calls-none : callsFrom Simple mode stream 0 at ≡ []
   unfolding callsFrom
   calls-none = refl
 
-  calls-over : ltb at (length stream) ≡ false → callsFrom Simple mode stream (suc n) at ≡ []
+  pub calls-over : ltb at (length stream) ≡ false → callsFrom Simple mode stream (suc n) at ≡ []
   unfolding callsFrom
   calls-over e = rw e
 

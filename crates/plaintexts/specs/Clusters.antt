@@ -1,8 +1,8 @@
 -- Plain cluster texts, as document 01 defines them: "for the simple parser alone: only XX, EX, SM, ZWJ, CR, LF, CN; emoji only on XX;
 -- no EX, SM or ZWJ directly after CR, LF or CN; no cluster of 32." And where the simple parser's clusters start.
 use Prim.Native.Nat.{ℕ, zero, suc, _+_}
-use mathlib.Core.Bool.{Bool, true, not, _&&_, _||_}
-use mathlib.Core.List.{List, [], _∷_}
+use mathlib.Core.Bool.{Bool, true, cond, not, _&&_, _||_}
+use mathlib.Core.List.{List, [], _∷_, _++_, map}
 use lib.Dec.{eqb, ltb}
 use lib.ListN.{length}
 use Rattle.classes.specs.ClusterBreak.{XX, CN, CR, LF, EX, SM, ZWJ}
@@ -12,14 +12,14 @@ use Rattle.records.specs.Refusals.{member}
 use Rattle.records.specs.declared.Parser.the-variants.{Simple}
 use Rattle.tokens.specs.Tokens.{streamOf}
 use Rattle.parse.specs.declared.Parse.{Parse}
+use Rattle.parse.specs.declared.Pushed.{Pushed}
 use Rattle.parse.specs.State.{placeOf}
+use Rattle.parse.specs.Cover.{pushed}
 use Rattle.segment.specs.Runs.{callsOf}
+use Rattle.plain.specs.Clusters.{controls, boundaryAt}
 
 abbrev pub plainKinds : List ℕ
 plainKinds = XX ∷ EX ∷ SM ∷ ZWJ ∷ CR ∷ LF ∷ CN ∷ []
-
-abbrev pub controls : List ℕ
-controls = CR ∷ LF ∷ CN ∷ []
 
 abbrev pub extensions : List ℕ
 extensions = EX ∷ SM ∷ ZWJ ∷ []
@@ -61,3 +61,13 @@ startsFrom stream at (p ∷ ps) = at ∷ startsFrom stream (placeOf stream p) ps
 -- where the simple parser's clusters start
 abbrev pub clusterStarts : Mode → Text → List ℕ
 clusterStarts mode t = startsFrom (streamOf mode Simple t) 0 (simpleCalls mode t)
+
+-- the number, from 0, of the cluster that the record at an index is in: how many boundaries stand after the text's start and up to it
+unfoldable pub numberAt : List ℕ → List ℕ → ℕ → ℕ
+numberAt breaks marks zero = 0
+numberAt breaks marks (suc i) = let before = numberAt breaks marks i in cond (boundaryAt breaks marks (suc i)) (before + 1) before
+
+-- the same for each pushed character of some calls
+unfoldable pub numbersOf : List ℕ → List ℕ → List Parse → List ℕ
+numbersOf breaks marks [] = []
+numbersOf breaks marks (p ∷ ps) = map (λ (c : Pushed). numberAt breaks marks (c .index)) (pushed p) ++ numbersOf breaks marks ps
