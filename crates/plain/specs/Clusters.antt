@@ -153,7 +153,7 @@ rules = GB1 ∷ GB2 ∷ GB3 ∷ GB4 ∷ GB5 ∷ GB6 ∷ GB7 ∷ GB8 ∷ GB9 ∷ 
 unfoldable pub applies : Rule → List Item → List Item → Bool
 applies r before after = r .before before && r .after after
 
--- "the first rule that matches": whether a boundary stands at the place between these characters; the empty text has none
+-- whether a boundary stands between these characters: the first rule that applies decides, and to the empty text none does
 unfoldable pub decide : List Rule → List Item → List Item → Bool
 decide [] before after = false
 decide (r ∷ rs) before after = cond (applies r before after) (r .parts) (decide rs before after)

@@ -28,7 +28,8 @@ emoji kind = (kind, 1)
 abbrev textWith : List Character → Text
 textWith cs =
     let zeros : List ℕ = map (λ (c : Character). 0) cs in
-    textOf (map {B = ℕ} (λ (c : Character). 0x61) cs) (map (λ (c : Character). c .0) cs) zeros zeros zeros zeros (map (λ (c : Character). c .1) cs) zeros zeros zeros zeros zeros zeros zeros [] [] [] []
+    textOf (map {B = ℕ} (λ (c : Character). 0x61) cs) (map (λ (c : Character). c .0) cs) zeros zeros zeros zeros
+    (map (λ (c : Character). c .1) cs) zeros zeros zeros zeros zeros zeros zeros [] [] [] []
 
 pub record Case : Type 0 where
   pub text : List Character
@@ -78,7 +79,8 @@ plains =
     ∷ case (no CR ∷ no LF ∷ []) (0 ∷ []) (0 ∷ [])
     ∷ case (no XX ∷ replicate 30 (no EX)) (0 ∷ []) (0 ∷ [])
     ∷ case (emoji XX ∷ no EX ∷ no ZWJ ∷ emoji XX ∷ []) (0 ∷ []) (0 ∷ [])
-    ∷ case (no ZWJ ∷ emoji XX ∷ no SM ∷ no ZWJ ∷ emoji XX ∷ no LF ∷ no CR ∷ no XX ∷ no ZWJ ∷ no XX ∷ no CN ∷ []) (0 ∷ 1 ∷ 4 ∷ 5 ∷ 6 ∷ 7 ∷ 9 ∷ 10 ∷ []) (0 ∷ 1 ∷ 4 ∷ 5 ∷ 6 ∷ 7 ∷ 9 ∷ 10 ∷ [])
+    ∷ case (no ZWJ ∷ emoji XX ∷ no SM ∷ no ZWJ ∷ emoji XX ∷ no LF ∷ no CR ∷ no XX ∷ no ZWJ ∷ no XX ∷ no CN ∷ [])
+    (0 ∷ 1 ∷ 4 ∷ 5 ∷ 6 ∷ 7 ∷ 9 ∷ 10 ∷ []) (0 ∷ 1 ∷ 4 ∷ 5 ∷ 6 ∷ 7 ∷ 9 ∷ 10 ∷ [])
     ∷ []
 
 -- what is told of a text, and what the definitions give
