@@ -1,13 +1,13 @@
 -- The word rules over the characters on the two sides of a place are the rules over what is seen of them.
 -- Assumes nothing.
 use Prim.Native.Nat.{ℕ}
-use mathlib.Core.Path.{_≡_, refl, sym, _∙_, ap}
+use mathlib.Core.Path.{_≡_, refl, _∙_, ap}
 use mathlib.Core.Bool.{Bool, true, false, cond, not, _&&_, _||_, and-true, and-false, true≢false}
 use mathlib.Core.List.{List, [], _∷_, _++_, map}
 use lib.Dec.{eqb}
 use Rattle.classes.specs.WordBreak.{Other, RI}
 use Rattle.plain.specs.Rules.{Item, Rule, is, isNot, among, pictographic, anything, edge, any, one, next, pairs, applies, decide}
-use Rattle.plain.specs.Words.{WB1, WB2, WB3, WB3a, WB3b, WB3c, WB3d, WB4, WB5, WB6, WB7, WB7a, WB7b, WB7c, WB8, WB9, WB10, WB11, WB12, WB13, WB13a, WB13b, WB15, WB16, WB999, seen, ignored, anX, kept, passed, keptFrom, toWB4, rules}
+use Rattle.plain.specs.Words.{WB1, WB2, WB3, WB3a, WB3b, WB3c, WB3d, WB4, WB5, WB6, WB7, WB7a, WB7b, WB7c, WB8, WB9, WB10, WB11, WB12, WB13, WB13a, WB13b, WB15, WB16, WB999, seen, ignored, anX, kept, passed, toWB4, rules}
 use Rattle.plain.specs.Words as Words
 use Rattle.plain.specs.declared.words.Seen.{Seen}
 use Rattle.plain.specs.WordsSeen.{fromWB1, fromWB3c, fromWB5, fromWB7a, fromWB8, fromWB13, fromWB15, decided, after, hasX, nothing}

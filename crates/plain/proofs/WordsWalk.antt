@@ -3,15 +3,15 @@
 use Prim.Native.Nat.{ℕ, zero, suc, _+_, _-_, _<_, _≤_}
 use mathlib.Core.Path.{_≡_, refl, sym, _∙_, ap}
 use mathlib.Core.Bool.{Bool, true, false, cond}
-use mathlib.Core.List.{List, [], _∷_, _++_, append-assoc}
+use mathlib.Core.List.{List, _∷_, _++_, append-assoc}
 use native.Mathlib.Omega.{arith}
 use native.Mathlib.Numerals.{add-one}
 use lib.ListN.{length, drop, set, length-append}
 use lib.Seq.{drop-cons, set-at}
 use Rattle.classes.specs.WordBreak.{Other}
 use Rattle.records.specs.Text.{cell}
-use Rattle.plain.specs.Rules.{Item, among, itemAt, beforeOf, itemsFrom, afterOf, decide}
-use Rattle.plain.specs.Words.{passed, rules, boundaryAt, boundaries}
+use Rattle.plain.specs.Rules.{Item, among, itemAt, beforeOf, itemsFrom}
+use Rattle.plain.specs.Words.{passed, boundaryAt, boundaries}
 use Rattle.plain.specs.declared.words.Seen.{Seen}
 use Rattle.plain.specs.declared.words.Set.the-variants.{Ignored}
 use Rattle.plain.specs.WordsSeen.{holds, decided, after, seenAt, ahead}

@@ -1,7 +1,7 @@
 -- UAX #29 of Unicode 15.0, section 4.1.1: the rules WB1 to WB999, each under the annex's own line and in its order, so that a
 -- reviewer reads them against the annex. Written from that document, and not from the word machine.
 use Prim.Native.Nat.{ℕ, zero, suc}
-use mathlib.Core.Bool.{Bool, true, false, cond, not, _&&_}
+use mathlib.Core.Bool.{Bool, false, cond, not, _&&_}
 use mathlib.Core.List.{List, [], _∷_, _++_, map}
 use Rattle.classes.specs.WordBreak.{CR, LF, NL, Extend, ZWJ, FO, WSegSpace, ALetter, HL, ML, MidNumLet, MN, NU, SQ, DQ, KA, EX, RI}
 use Rattle.plain.specs.Rules.{Item, is, isNot, among, pictographic, Rule, anything, edge, any, one, next, pairs, _÷_, _⨯_, decide, beforeOf, afterOf}

@@ -1,8 +1,8 @@
 -- For the executable form of the word rules: what they see of the characters before a place, kept from record to record, and the rules
 -- over it. Other, a class that no rule names, stands for no character.
-use Prim.Native.Nat.{ℕ, zero, suc, _+_, _-_}
+use Prim.Native.Nat.{ℕ, zero, suc, _+_}
 use mathlib.Core.Bool.{Bool, true, false, cond, not, _&&_}
-use mathlib.Core.List.{List, [], _∷_, _++_}
+use mathlib.Core.List.{List, _++_}
 use lib.Dec.{eqb, leb}
 use lib.ListN.{length, drop}
 use Rattle.classes.specs.WordBreak.{Other, CR, LF, ZWJ, WSegSpace, HL, NU, SQ, DQ, KA, EX, RI}

@@ -1,5 +1,5 @@
 // WB1 to WB999 of UAX #29 in one pass over two lent columns, the word classes and the marks read as Extended_Pictographic.
-use classes::word_break;
+use classes::word_break::*;
 use records::cells::cell8;
 ghost use mathlib.Core.Path.{_≡_};
 ghost use mathlib.Core.Bool.{cond, _&&_, not};
@@ -56,16 +56,16 @@ fn in3(class: u8, a: u8, b: u8, c: u8) -> bool
 fn is_extendable(class: u8) -> bool
     ensures { λ r. ⌜ r ≡ holds Set.Extendable class ⌝ }
 {
-    if class == word_break::KA {
+    if class == KA {
         return true;
     }
-    in3(class, word_break::NU, word_break::ALetter, word_break::HL)
+    in3(class, NU, ALetter, HL)
 }
 
 fn is_extended(class: u8) -> bool
     ensures { λ r. ⌜ r ≡ holds Set.Extended class ⌝ }
 {
-    if class == word_break::EX {
+    if class == EX {
         return true;
     }
     is_extendable(class)
@@ -77,11 +77,11 @@ impl Set {
     {
         match self {
             Set::Only(only) => class == only,
-            Set::Newlines => in3(class, word_break::NL, word_break::CR, word_break::LF),
-            Set::Ignored => in3(class, word_break::Extend, word_break::FO, word_break::ZWJ),
-            Set::Letters => in2(class, word_break::ALetter, word_break::HL),
-            Set::MidLetters => in3(class, word_break::ML, word_break::MidNumLet, word_break::SQ),
-            Set::MidNumbers => in3(class, word_break::MN, word_break::MidNumLet, word_break::SQ),
+            Set::Newlines => in3(class, NL, CR, LF),
+            Set::Ignored => in3(class, Extend, FO, ZWJ),
+            Set::Letters => in2(class, ALetter, HL),
+            Set::MidLetters => in3(class, ML, MidNumLet, SQ),
+            Set::MidNumbers => in3(class, MN, MidNumLet, SQ),
             Set::Extendable => is_extendable(class),
             Set::Extended => is_extended(class),
         }
@@ -121,7 +121,7 @@ fn from_wb15(b: u8, odd: bool) -> bool
     ensures { λ r. ⌜ r ≡ fromWB15 b odd ⌝ }
 {
     // WB15, WB16
-    if b == word_break::RI {
+    if b == RI {
         return !odd;
     }
     // WB999
@@ -132,20 +132,15 @@ fn from_wb13(near: u8, b: u8, odd: bool) -> bool
     ensures { λ r. ⌜ r ≡ fromWB13 near b (fromWB15 b odd) ⌝ }
 {
     // WB13
-    if pair(
-        Set::Only(word_break::KA),
-        near,
-        Set::Only(word_break::KA),
-        b,
-    ) {
+    if pair(Set::Only(KA), near, Set::Only(KA), b) {
         return false;
     }
     // WB13a
-    if pair(Set::Extended, near, Set::Only(word_break::EX), b) {
+    if pair(Set::Extended, near, Set::Only(EX), b) {
         return false;
     }
     // WB13b
-    if pair(Set::Only(word_break::EX), near, Set::Extendable, b) {
+    if pair(Set::Only(EX), near, Set::Extendable, b) {
         return false;
     }
     from_wb15(b, odd)
@@ -155,42 +150,23 @@ fn from_wb8(far: u8, near: u8, b: u8, next: u8, odd: bool) -> bool
     ensures { λ r. ⌜ r ≡ fromWB8 far near b next (fromWB13 near b (fromWB15 b odd)) ⌝ }
 {
     // WB8
-    if pair(
-        Set::Only(word_break::NU),
-        near,
-        Set::Only(word_break::NU),
-        b,
-    ) {
+    if pair(Set::Only(NU), near, Set::Only(NU), b) {
         return false;
     }
     // WB9
-    if pair(Set::Letters, near, Set::Only(word_break::NU), b) {
+    if pair(Set::Letters, near, Set::Only(NU), b) {
         return false;
     }
     // WB10
-    if pair(Set::Only(word_break::NU), near, Set::Letters, b) {
+    if pair(Set::Only(NU), near, Set::Letters, b) {
         return false;
     }
     // WB11
-    if two_one(
-        Set::Only(word_break::NU),
-        far,
-        Set::MidNumbers,
-        near,
-        Set::Only(word_break::NU),
-        b,
-    ) {
+    if two_one(Set::Only(NU), far, Set::MidNumbers, near, Set::Only(NU), b) {
         return false;
     }
     // WB12
-    if one_two(
-        Set::Only(word_break::NU),
-        near,
-        Set::MidNumbers,
-        b,
-        Set::Only(word_break::NU),
-        next,
-    ) {
+    if one_two(Set::Only(NU), near, Set::MidNumbers, b, Set::Only(NU), next) {
         return false;
     }
     from_wb13(near, b, odd)
@@ -200,34 +176,15 @@ fn from_wb7a(far: u8, near: u8, b: u8, next: u8, odd: bool) -> bool
     ensures { λ r. ⌜ r ≡ fromWB7a far near b next (fromWB8 far near b next (fromWB13 near b (fromWB15 b odd))) ⌝ }
 {
     // WB7a
-    if pair(
-        Set::Only(word_break::HL),
-        near,
-        Set::Only(word_break::SQ),
-        b,
-    ) {
+    if pair(Set::Only(HL), near, Set::Only(SQ), b) {
         return false;
     }
     // WB7b
-    if one_two(
-        Set::Only(word_break::HL),
-        near,
-        Set::Only(word_break::DQ),
-        b,
-        Set::Only(word_break::HL),
-        next,
-    ) {
+    if one_two(Set::Only(HL), near, Set::Only(DQ), b, Set::Only(HL), next) {
         return false;
     }
     // WB7c
-    if two_one(
-        Set::Only(word_break::HL),
-        far,
-        Set::Only(word_break::DQ),
-        near,
-        Set::Only(word_break::HL),
-        b,
-    ) {
+    if two_one(Set::Only(HL), far, Set::Only(DQ), near, Set::Only(HL), b) {
         return false;
     }
     from_wb8(far, near, b, next, odd)
@@ -254,9 +211,9 @@ fn from_wb5(far: u8, near: u8, b: u8, next: u8, odd: bool) -> bool
 impl Seen {
     const NOTHING: Seen = Seen {
         none: true,
-        last: word_break::Other,
-        near: word_break::Other,
-        far: word_break::Other,
+        last: Other,
+        near: Other,
+        far: Other,
         odd: false,
     };
 
@@ -264,16 +221,11 @@ impl Seen {
         ensures { λ r. ⌜ r ≡ fromWB3c (self .last) b mark (afterWB4 self b next) ⌝ }
     {
         // WB3c
-        if pair(Set::Only(word_break::ZWJ), self.last, Set::Only(1), mark) {
+        if pair(Set::Only(ZWJ), self.last, Set::Only(1), mark) {
             return false;
         }
         // WB3d
-        if pair(
-            Set::Only(word_break::WSegSpace),
-            self.last,
-            Set::Only(word_break::WSegSpace),
-            b,
-        ) {
+        if pair(Set::Only(WSegSpace), self.last, Set::Only(WSegSpace), b) {
             return false;
         }
         // WB4
@@ -291,12 +243,7 @@ impl Seen {
             return true;
         }
         // WB3
-        if pair(
-            Set::Only(word_break::CR),
-            self.last,
-            Set::Only(word_break::LF),
-            b,
-        ) {
+        if pair(Set::Only(CR), self.last, Set::Only(LF), b) {
             return false;
         }
         // WB3a
@@ -333,7 +280,7 @@ impl Seen {
     fn odd_with(self, class: u8) -> bool
         ensures { λ r. ⌜ r ≡ (eqb class WordBreak.RI && not (self .odd)) ⌝ }
     {
-        if class == word_break::RI {
+        if class == RI {
             return !self.odd;
         }
         false
@@ -373,7 +320,7 @@ fn ahead(words: &[u8], at: usize) -> u8
             return words[i];
         }
     }
-    word_break::Other
+    Other
 }
 
 fn least(a: usize, b: usize) -> usize

@@ -1,28 +1,21 @@
 -- What the GB rules say between two characters of a plain text: few of them ever apply, and only GB11 looks further back.
 -- Assumes nothing.
-use Prim.Native.Nat.{ℕ, zero, suc, _+_, _-_, _<_, _≤_}
-use mathlib.Core.Path.{_≡_, refl, sym, _∙_, ap, subst}
-use mathlib.Core.Bool.{Bool, true, false, cond, not, _&&_, _||_}
+use Prim.Native.Nat.{ℕ, zero, suc, _<_}
+use mathlib.Core.Path.{_≡_, refl, sym, _∙_, ap}
+use mathlib.Core.Bool.{Bool, true, false, cond, _&&_, _||_, and-false}
 use mathlib.Core.List.{List, [], _∷_}
 use native.Mathlib.Omega.{arith}
-use lib.Dec.{eqb, ltb}
+use lib.Dec.{eqb}
 use lib.ListN.{length}
 use borrow.Author.Tests.{le-ltb, eqb-true}
 use Rattle.classes.specs.ClusterBreak.{XX, CN, CR, LF, EX, SM, ZWJ}
 use Rattle.records.specs.Text.{cell}
 use Rattle.records.specs.Refusals.{member}
 use Rattle.parse.proofs.Loop.{false-true, by-test}
-use Rattle.plain.specs.Clusters.{controls, Item, is, isNot, among, pictographic, anything, edge, any, one, next, many, pairs, applies, decide, rules, itemAt, beforeOf, itemsFrom, afterOf, boundaryAt, GB1, GB2, GB3, GB4, GB5, GB6, GB7, GB8, GB9, GB9a, GB9b, GB11, GB12, GB13, GB999}
+use Rattle.plain.specs.Clusters.{controls, Item, is, isNot, among, pictographic, anything, edge, any, one, next, many, applies, decide, rules, itemAt, beforeOf, boundaryAt, GB1, GB2, GB3, GB4, GB5, GB6, GB7, GB8, GB9, GB9a, GB9b, GB11, GB12, GB13, GB999}
 use Rattle.plain.proofs.ClustersSides.{some-after}
 use Rattle.plaintexts.specs.Clusters.{plainKinds, extensions}
-
--- a kind that is j, or one of the others
-or-case : (P : ℕ → Type 0) (k j : ℕ) {others : Bool} → (eqb k j || others) ≡ true → P j → (others ≡ true → P k) → P k
-or-case P k j {others} h p f = go (eqb k j) refl h
-  where
-    go : (b : Bool) → eqb k j ≡ b → (b || others) ≡ true → P k
-    go true e q = subst P (sym (eqb-true k j e)) p
-    go false e q = f q
+use Rattle.plaintexts.proofs.Tests.{and-both, or-case}
 
 -- what holds of the seven plain kinds holds of every kind that is plain
 pub kind-case : (P : ℕ → Type 0) → P XX → P EX → P SM → P ZWJ → P CR → P LF → P CN → (k : ℕ) → member plainKinds k ≡ true → P k
@@ -51,14 +44,6 @@ pub record Columns (breaks marks : List ℕ) : Type 0 where
 pub extension-case : (P : ℕ → Type 0) → P EX → P SM → P ZWJ → (k : ℕ) → member extensions k ≡ true → P k
 extension-case P ex sm zwj k h =
     or-case P k EX h ex (λ h₁. or-case P k SM h₁ sm (λ h₂. or-case P k ZWJ h₂ zwj (λ h₃. absurd (false-true h₃))))
-
-and-false : (b : Bool) → (b && false) ≡ false
-and-false true = refl
-and-false false = refl
-
-pub and-both : (a b : Bool) → (a && b) ≡ true → (a ≡ true) × (b ≡ true)
-and-both true b e = (refl, e)
-and-both false b e = absurd (false-true e)
 
 module _ (crlf after before extends spaces joins : Bool) where
   says-newline : crlf ≡ true → says crlf after before extends spaces joins ≡ false

@@ -30,7 +30,8 @@ use Rattle.segment.proofs.Laws.{accepted-short}
 use Rattle.segment.proofs.Demands.{call-once, run-writes}
 use Rattle.plain.specs.Clusters.{boundaryAt}
 use Rattle.plaintexts.specs.Clusters.{plainAt, every, allShort, isPlain, simpleCalls, numberAt, numbersOf}
-use Rattle.plaintexts.proofs.ClustersNeighbours.{and-both, Columns}
+use Rattle.plaintexts.proofs.Tests.{and-both}
+use Rattle.plaintexts.proofs.ClustersNeighbours.{Columns}
 use Rattle.plaintexts.proofs.ClustersAfter.{Joined}
 use Rattle.plaintexts.proofs.ClustersCall.{Shows}
 use Rattle.plaintexts.proofs.ClustersPlain.{stream-length, stream-shows, stream-index, plain-columns, starts-at-0, call-plain, call-once-only, calls-more, calls-none, calls-over}

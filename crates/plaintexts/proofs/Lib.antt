@@ -1,3 +1,4 @@
+pub mod Tests
 pub mod ClustersNeighbours
 pub mod ClustersAfter
 pub mod ClustersCall

@@ -2,10 +2,9 @@
 -- Assumes nothing.
 use Prim.Native.Nat.{ℕ, zero, suc, _+_, _-_, _<_, _≤_}
 use mathlib.Core.Path.{_≡_, refl, sym, _∙_, ap, subst}
-use mathlib.Core.Bool.{Bool, true, false, cond, not, _&&_, _||_, and-false, or-false}
-use mathlib.Core.List.{List, [], _∷_, _++_}
-use mathlib.Core.Logic.{⊎-elim}
-use native.Mathlib.Nat.{eq-or-lt-of-le, le-refl}
+use mathlib.Core.Bool.{Bool, true, false, cond, not, _&&_, and-false, or-false}
+use mathlib.Core.List.{List, _++_}
+use native.Mathlib.Nat.{le-refl}
 use native.Mathlib.Omega.{arith}
 use native.Mathlib.Numerals.{add-one}
 use lib.Dec.{eqb, ltb}
@@ -16,17 +15,16 @@ use Rattle.records.specs.Text.{cell}
 use Rattle.records.specs.Refusals.{member}
 use Rattle.records.specs.declared.Verdict.the-variants.{Accepted}
 use Rattle.words.specs.declared.WordStep.{WordStep}
-use Rattle.words.specs.declared.Next.{Next}
 use Rattle.words.specs.declared.Next.the-variants.{Class, End}
 use Rattle.words.specs.Rules.{exitOf, leaves, told}
 use Rattle.words.specs.Run.{nextAt, stepFrom, stateAt, answerAt, answers, runVerdict, runCells}
-use Rattle.plain.specs.Words.{AHLetter, newlines, ignored, boundaryAt, boundaries}
+use Rattle.plain.specs.Words.{newlines, ignored, boundaryAt, boundaries}
 use Rattle.plain.specs.declared.words.Seen.{Seen}
-use Rattle.plain.specs.WordsSeen.{decided, fromWB1, after, hasX, nothing, seenAt, ahead}
+use Rattle.plain.specs.WordsSeen.{decided, fromWB1, after, seenAt, ahead}
 use Rattle.plain.proofs.WordsWalk.{ahead-here, ahead-none, boundary-is}
-use Rattle.plaintexts.specs.Clusters.{every}
 use Rattle.plaintexts.specs.Words.{plainWordAt, isPlainWords}
-use Rattle.plaintexts.proofs.WordsStep.{Looks, held, countOf, machine, seenPast, and-both, told-same, step-right}
+use Rattle.plaintexts.proofs.WordsStep.{Looks, held, countOf, machine, seenPast, told-same, step-right}
+use Rattle.plaintexts.proofs.Tests.{and-both, every-at}
 
 -- the look-ahead
 looks-under : (words : List ℕ) (i : ℕ) (there : Bool) → ltb i (length words) ≡ there → Looks (cond there (Class (cell words i)) End) (cell words i)
@@ -39,14 +37,6 @@ looks-at : (words : List ℕ) (i : ℕ) → Looks (nextAt words i) (cell words i
 unfolding nextAt
 looks-at words i = looks-under words i (ltb i (length words)) refl
 
-every-at : (p : ℕ → Bool) (n i : ℕ) → i < n → every p n ≡ true → p i ≡ true
-unfolding every
-every-at p zero i l h = absurd (omega arith)
-every-at p (suc n) i l h =
-    let k = and-both (p n) (every p n) h in
-    let m : i ≤ n = omega arith in
-    ⊎-elim (λ e. rw e (k .0)) (λ less. every-at p n i less (k .1)) (eq-or-lt-of-le m)
-
 begun-count : (t : Bool) → _≡_ {A = ℕ} (cond t (cond (t && true) 1 2) 0) (cond t 1 0)
 begun-count true = refl
 begun-count false = refl
@@ -55,7 +45,7 @@ module _ (words pictographs : List ℕ) (plain : isPlainWords words ≡ true) wh
   plain-at : (i : ℕ) → i < length words → (member ignored (cell words i) ≡ false) × ((member newlines (cell words i) && eqb (cell words (i + 1)) RI) ≡ false)
   unfolding isPlainWords plainWordAt
   plain-at i l =
-      let k = and-both (not (member ignored (cell words i))) (not (member newlines (cell words i) && eqb (cell words (i + 1)) RI)) (every-at (plainWordAt words) (length words) i l plain) in
+      let k = and-both (not (member ignored (cell words i))) (not (member newlines (cell words i) && eqb (cell words (i + 1)) RI)) (every-at (plainWordAt words) (length words) i plain l) in
       (not-true _ (k .0), not-true _ (k .1))
 
   -- WB4 passes over nothing

@@ -1,22 +1,22 @@
 -- One step of the word machine at a record of a plain text: the rules give the same answer, and the state that it leaves says what they
 -- see. Exit by exit: each names the classes on the two sides, and for those the rules compute. Assumes nothing.
 use Prim.Native.Nat.{ℕ, _+_}
-use mathlib.Core.Path.{_≡_, refl, sym, _∙_, ap, subst}
-use mathlib.Core.Bool.{Bool, true, false, cond, not, _&&_, _||_, and-false, false≢true, true≢false}
+use mathlib.Core.Path.{_≡_, refl, sym, _∙_, ap}
+use mathlib.Core.Bool.{Bool, true, false, cond, not, _&&_, _||_, and-false, true≢false}
 use mathlib.Core.List.{List, [], _∷_}
 use lib.Dec.{eqb, leb}
-use borrow.Author.Tests.{eqb-true}
 use Rattle.classes.specs.WordBreak.{CR, LF, Extend, ZWJ, FO, WSegSpace, ALetter, HL, NU, SQ, DQ, KA, EX, RI}
 use Rattle.records.specs.Refusals.{member}
 use Rattle.words.specs.declared.WordState.{WordState}
 use Rattle.words.specs.declared.WordStep.{WordStep}
 use Rattle.words.specs.declared.Next.{Next}
 use Rattle.words.specs.declared.Exit.{Exit}
-use Rattle.words.specs.declared.Exit.the-variants.{Begun, Released, Joined, Parted, Ignored, Held, Opened, Paired}
+use Rattle.words.specs.declared.Exit.the-variants.{Released, Joined, Parted, Ignored, Held, Opened, Paired}
 use Rattle.words.specs.Rules.{_⇒_▹_, nextIn, flagRules, numberRules, letterRules, pairRules, exitOf, leaves, ruled, told}
 use Rattle.plain.specs.Words.{AHLetter, newlines, ignored, midLetters, midNumbers, extendable, extended}
 use Rattle.plain.specs.declared.words.Seen.{Seen}
 use Rattle.plain.specs.declared.words.Set.the-variants.{Only, Letters, MidLetters, MidNumbers}
+use Rattle.plaintexts.proofs.Tests.{and-both, eq-case, in-case, All}
 use Rattle.plain.specs.WordsSeen.{holds, both, fromWB1, fromWB3c, fromWB5, fromWB7a, fromWB8, fromWB13, fromWB15, decided}
 
 -- WB7, WB7c, WB11: what the machine knows by prevent-next
@@ -42,26 +42,6 @@ pub record Looks (next : Next) (c : ℕ) : Type 0 where
   pub letter : nextIn AHLetter next ≡ member AHLetter c
   pub hebrew : nextIn (HL ∷ []) next ≡ eqb c HL
   pub number : nextIn (NU ∷ []) next ≡ eqb c NU
-
--- a class of a list, case by case
-abbrev All : (ℕ → Type 0) → List ℕ → Type 0
-All P [] = Unit {0}
-All P (k ∷ ks) = P k × All P ks
-
-eq-case : (P : ℕ → Type 0) (x k : ℕ) → eqb x k ≡ true → P k → P x
-eq-case P x k h p = subst P (sym (eqb-true x k h)) p
-
-or-case : (P : ℕ → Type 0) (k x : ℕ) (t others : Bool) → eqb x k ≡ t → (t || others) ≡ true → P k → (others ≡ true → P x) → P x
-or-case P k x true others e h p f = eq-case P x k e p
-or-case P k x false others e h p f = f h
-
-in-case : (P : ℕ → Type 0) (ks : List ℕ) (x : ℕ) → member ks x ≡ true → All P ks → P x
-in-case P [] x h all = absurd (false≢true h)
-in-case P (k ∷ ks) x h all = or-case P k x (eqb x k) (member ks x) refl h (all .0) (λ q. in-case P ks x q (all .1))
-
-pub and-both : (a b : Bool) → (a && b) ≡ true → (a ≡ true) × (b ≡ true)
-and-both true b h = (refl, h)
-and-both false b h = absurd (false≢true h)
 
 -- two tests, on the classes on the two sides
 pair-case : (P : ℕ → ℕ → Type 0) (k l a b : ℕ) → (eqb a k && eqb b l) ≡ true → P k l → P a b

@@ -34,7 +34,8 @@ emoji kind = (kind, 1)
 abbrev textWith : List Character → Text
 textWith cs =
     let zeros : List ℕ = map (λ (c : Character). 0) cs in
-    textOf (map {B = ℕ} (λ (c : Character). 0x61) cs) (map (λ (c : Character). c .0) cs) zeros zeros zeros zeros (map (λ (c : Character). c .1) cs) zeros zeros zeros zeros zeros zeros zeros [] [] [] []
+    textOf (map {B = ℕ} (λ (c : Character). 0x61) cs) (map (λ (c : Character). c .0) cs) zeros zeros zeros zeros
+    (map (λ (c : Character). c .1) cs) zeros zeros zeros zeros zeros zeros zeros [] [] [] []
 
 -- what a text is divided into
 pub data Into : Type 0 where
@@ -114,11 +115,13 @@ plains =
     ∷ clusters (no CR ∷ no LF ∷ []) (0 ∷ []) (0 ∷ [])
     ∷ clusters (no XX ∷ replicate 30 (no EX)) (0 ∷ []) (0 ∷ [])
     ∷ clusters (emoji XX ∷ no EX ∷ no ZWJ ∷ emoji XX ∷ []) (0 ∷ []) (0 ∷ [])
-    ∷ clusters (no ZWJ ∷ emoji XX ∷ no SM ∷ no ZWJ ∷ emoji XX ∷ no LF ∷ no CR ∷ no XX ∷ no ZWJ ∷ no XX ∷ no CN ∷ []) (0 ∷ 1 ∷ 4 ∷ 5 ∷ 6 ∷ 7 ∷ 9 ∷ 10 ∷ []) (0 ∷ 1 ∷ 4 ∷ 5 ∷ 6 ∷ 7 ∷ 9 ∷ 10 ∷ [])
+    ∷ clusters (no ZWJ ∷ emoji XX ∷ no SM ∷ no ZWJ ∷ emoji XX ∷ no LF ∷ no CR ∷ no XX ∷ no ZWJ ∷ no XX ∷ no CN ∷ [])
+    (0 ∷ 1 ∷ 4 ∷ 5 ∷ 6 ∷ 7 ∷ 9 ∷ 10 ∷ []) (0 ∷ 1 ∷ 4 ∷ 5 ∷ 6 ∷ 7 ∷ 9 ∷ 10 ∷ [])
     ∷ words [] [] []
     ∷ words (no W.ALetter ∷ no W.MidNumLet ∷ no W.ALetter ∷ []) (0 ∷ []) (0 ∷ [])
     ∷ words (no W.RI ∷ no W.RI ∷ no W.RI ∷ []) (0 ∷ 2 ∷ []) (0 ∷ 2 ∷ [])
-    ∷ words (no W.CR ∷ no W.LF ∷ no W.HL ∷ no W.DQ ∷ no W.HL ∷ no W.EX ∷ no W.NU ∷ no W.WSegSpace ∷ no W.WSegSpace ∷ no W.RI ∷ []) (0 ∷ 2 ∷ 7 ∷ 9 ∷ []) (0 ∷ 2 ∷ 7 ∷ 9 ∷ [])
+    ∷ words (no W.CR ∷ no W.LF ∷ no W.HL ∷ no W.DQ ∷ no W.HL ∷ no W.EX ∷ no W.NU ∷ no W.WSegSpace ∷ no W.WSegSpace ∷ no W.RI ∷ [])
+    (0 ∷ 2 ∷ 7 ∷ 9 ∷ []) (0 ∷ 2 ∷ 7 ∷ 9 ∷ [])
     ∷ []
 
 -- what is told of a text, and what the definitions give: the check's verdict, whether it is plain in either mode, the places in either
@@ -145,12 +148,14 @@ placesOf bits text = placesFrom (λ i. eqb (cell bits i) 1) 0 (length text)
 abbrev givenOf : Into → List Character → Facts
 givenOf Clusters text =
     let t = textWith text in
-    found (verdict Simple t) (isPlain Crate t) (isPlain Whole t) (clusterStarts Crate t) (clusterStarts Whole t) (boundaries (t .records .breaks) (t .records .semojis))
+    found (verdict Simple t) (isPlain Crate t) (isPlain Whole t) (clusterStarts Crate t) (clusterStarts Whole t)
+    (boundaries (t .records .breaks) (t .records .semojis))
 givenOf Words text =
     let classes = map {B = ℕ} (λ (c : Character). c .0) text in
     let marks = map {B = ℕ} (λ (c : Character). c .1) text in
     let starts = placesOf (answers classes marks (length text)) text in
-    found (wordVerdict classes marks) (isPlainWords classes) (isPlainWords classes) starts starts (placesOf (WB.boundaries classes marks (length text)) text)
+    found (wordVerdict classes marks) (isPlainWords classes) (isPlainWords classes) starts starts
+    (placesOf (WB.boundaries classes marks (length text)) text)
 
 abbrev given : Case → Facts
 given c = givenOf (c .into) (c .text)
