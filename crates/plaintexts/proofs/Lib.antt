@@ -3,4 +3,5 @@ pub mod ClustersAfter
 pub mod ClustersCall
 pub mod ClustersPlain
 pub mod ClustersNumbers
+pub mod ClustersModes
 pub mod ClustersDiffer
