@@ -1,18 +1,18 @@
 -- What the GB rules say between two characters of a plain text: few of them ever apply, and only GB11 looks further back.
 -- Assumes nothing.
-use Prim.Native.Nat.{ℕ, zero, suc, _+_, _-_, _<_, _≤_}
+use Prim.Native.Nat.{ℕ, zero, suc, _-_, _<_}
 use mathlib.Core.Path.{_≡_, refl, sym, _∙_, ap, subst}
 use mathlib.Core.Bool.{Bool, true, false, cond, not, _&&_, _||_}
 use mathlib.Core.List.{List, [], _∷_}
 use native.Mathlib.Omega.{arith}
-use lib.Dec.{eqb, ltb}
+use lib.Dec.{eqb}
 use lib.ListN.{length}
 use borrow.Author.Tests.{le-ltb, eqb-true}
 use Rattle.classes.specs.ClusterBreak.{XX, CN, CR, LF, EX, SM, ZWJ}
 use Rattle.records.specs.Text.{cell}
 use Rattle.records.specs.Refusals.{member}
 use Rattle.parse.proofs.Loop.{false-true, by-test}
-use Rattle.plain.specs.Clusters.{controls, Item, is, isNot, among, pictographic, anything, edge, any, one, next, many, pairs, applies, decide, rules, itemAt, beforeOf, itemsFrom, afterOf, boundaryAt, GB1, GB2, GB3, GB4, GB5, GB6, GB7, GB8, GB9, GB9a, GB9b, GB11, GB12, GB13, GB999}
+use Rattle.plain.specs.Clusters.{controls, Item, is, isNot, among, pictographic, anything, edge, any, one, next, many, applies, decide, rules, itemAt, beforeOf, boundaryAt, GB1, GB2, GB3, GB4, GB5, GB6, GB7, GB8, GB9, GB9a, GB9b, GB11, GB12, GB13, GB999}
 use Rattle.plain.proofs.ClustersSides.{some-after}
 use Rattle.plaintexts.specs.Clusters.{plainKinds, extensions}
 
