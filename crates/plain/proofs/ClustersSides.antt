@@ -9,8 +9,7 @@ use lib.Dec.{eqb, leb, ltb}
 use lib.ListN.{length}
 use borrow.Author.Tests.{lt-ltb, le-ltb, ltb-true, ltb-false, le-leb, lt-leb, eq-eqb, ne-eqb}
 use Rattle.records.specs.Text.{cell}
-use Rattle.records.specs.Refusals.{member}
-use Rattle.plain.specs.Clusters.{Item, Test, Side, Rule, is, isNot, among, pictographic, anything, edge, any, one, next, many, pairs, applies, decide, itemAt, beforeOf, itemsFrom, afterOf, rules, boundaryAt}
+use Rattle.plain.specs.Clusters.{Item, Test, Side, Rule, is, isNot, among, pictographic, edge, any, one, next, many, pairs, applies, decide, itemAt, beforeOf, itemsFrom, afterOf, rules, boundaryAt}
 use Rattle.plain.specs.ClustersBack.{beyond}
 
 false-true : false ≡ true → ⊥

@@ -4,7 +4,7 @@ use Prim.Native.Nat.{ℕ, zero, suc, _+_, _<_, _≤_}
 use mathlib.Core.Path.{_≡_, refl, sym, _∙_, ap, subst}
 use mathlib.Core.Bool.{Bool, true, false, cond}
 use mathlib.Core.List.{List}
-use mathlib.Core.Logic.{_⊎_, inl, inr, ⊎-elim}
+use mathlib.Core.Logic.{_⊎_, ⊎-elim}
 use native.Mathlib.Nat.{eq-or-lt-of-le, le-refl}
 use native.Mathlib.Omega.{arith}
 use lib.Dec.{ltb}
@@ -15,8 +15,8 @@ use Rattle.classes.specs.declared.Shape.the-variants.{Other}
 use Rattle.parse.specs.declared.Parse.{Parse}
 use Rattle.parse.specs.declared.Info.{Info}
 use Rattle.parse.specs.declared.Flow.{Flow}
-use Rattle.parse.specs.declared.Flow.the-variants.{GoOn, Stop, Full, End}
-use Rattle.parse.specs.State.{tokenAt, placeAfter, turns, isGoing, going, putOf, notedOf, movedOf, onJoiner, hop, stepOf, pushOf, noteOf, goOn, resumedOf, passesEnd}
+use Rattle.parse.specs.declared.Flow.the-variants.{GoOn, Stop, End}
+use Rattle.parse.specs.State.{tokenAt, placeAfter, turns, isGoing, going, putOf, notedOf, movedOf, stepOf, pushOf, noteOf, goOn, resumedOf, passesEnd}
 use Rattle.parse.specs.Rule.{Rule, Test, skip, stop, push, note, mark, seq, choose, while, part, run, holds}
 use Rattle.parse.proofs.Loop.{false-true, if-intro, by-test, loop-keeps}
 use Rattle.parse.proofs.Moves.{put-same, noted-same, moved-case, step-stays}
@@ -90,14 +90,7 @@ no-joiner true false x e = refl
 no-joiner false j x e = refl
 
 module _ (text : List ℕ) (b : ℕ → Bool) (from : ℕ) where
-  -- what a call has reached, said otherwise
-  pub after-map : (s : Parse) {Q S R T : ℕ → Type 0} → After text b from Q S s → ((j : ℕ) → j < length text → Q j → R j) → ((j : ℕ) → j < length text → S j → T j) → After text b from R T s
-  after-map s (full h) f g = full h
-  after-map s (over o) f g = over o
-  after-map s (halted st x) f g = halted st (g (s .at) (st .inside) x)
-  after-map s (goes st x) f g = goes st (f (s .at) (st .inside) x)
-
-  -- a rule after that
+  -- a rule after what a call has reached
   pub after-run : (r : Rule) (s : Parse) {Q S R T : ℕ → Type 0} → After text b from Q S s → (Stands text b from GoOn s → Q (s .at) → After text b from R T (run r text s)) → ((j : ℕ) → j < length text → S j → T j) → After text b from R T (run r text s)
   after-run r s (full h) f g = full (run-full r text s h)
   after-run r s {R = R} {T = T} (over o) f g = subst (λ (q : Parse). After text b from R T q) (sym (run-still r text s (ap isGoing (o .flow)))) (over o)

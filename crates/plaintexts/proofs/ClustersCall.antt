@@ -21,19 +21,19 @@ use Rattle.records.specs.Refusals.{member}
 use Rattle.token.specs.Token.{kindOf, breakOf, emojiOf}
 use Rattle.parse.specs.declared.Parse.{Parse}
 use Rattle.parse.specs.declared.Info.{Info}
-use Rattle.parse.specs.declared.Flow.the-variants.{GoOn, Stop}
+use Rattle.parse.specs.declared.Flow.the-variants.{GoOn}
 use Rattle.parse.specs.declared.Space.the-variants.{Newline}
 use Rattle.parse.specs.declared.Emoji.the-variants.{Default, Text, Color}
 use Rattle.parse.specs.State.{tokenAt, begin}
 use Rattle.parse.specs.Rule.{Rule, skip, stop, note, mark, seq, choose, while, part, run, take, manyAs, acceptAs, is, isBreak, isScalar, isEmoji, isSelector, oneOf, setBroken, setEmoji, setSpace, setSpaceFromChar, forceNormalize}
 use Rattle.parse.specs.Rule as Parse-rule
 use Rattle.parse.specs.Shared.{emojiMark, emojiExtension, emojiTurn, emojis, newline}
-use Rattle.parse.proofs.Loop.{false-true, by-test}
+use Rattle.parse.proofs.Loop.{false-true}
 use Rattle.simple.specs.Grammar.{cluster, start, control, syllable, other, isExtension, extension, extend, combining}
 use Rattle.plain.specs.Clusters.{boundaryAt}
-use Rattle.plaintexts.specs.Clusters.{plainKinds, extensions}
-use Rattle.plaintexts.proofs.ClustersNeighbours.{kind-case, extension-case, Columns, Calm, P, Z, P-next, Z-next, Z-start, extension-joins, newline-joins, emoji-joins, calm-other, calm-control, calm-extension, calm-start, calm-stopped, calm-joined}
-use Rattle.plaintexts.proofs.ClustersAfter.{Joined, Stands, After, goes, after-map, seq-after, choose-after, skip-after, mark-after, stop-after, push-after, note-after, while-after, part-after}
+use Rattle.plaintexts.specs.Clusters.{extensions}
+use Rattle.plaintexts.proofs.ClustersNeighbours.{kind-case, Columns, Calm, P, Z, P-next, Z-next, Z-start, extension-joins, newline-joins, emoji-joins, calm-other, calm-control, calm-extension, calm-start, calm-stopped, calm-joined}
+use Rattle.plaintexts.proofs.ClustersAfter.{Stands, After, seq-after, choose-after, skip-after, mark-after, stop-after, push-after, note-after, while-after, part-after}
 
 -- a stream of tokens that say what the two columns say
 pub record Shows (stream breaks marks : List ℕ) : Type 0 where

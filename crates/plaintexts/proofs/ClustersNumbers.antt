@@ -2,7 +2,7 @@
 -- record is in. Assumes nothing.
 use Prim.Native.Nat.{ℕ, zero, suc, _+_, _-_, _<_, _≤_}
 use mathlib.Core.Path.{_≡_, refl, sym, _∙_, ap, subst}
-use mathlib.Core.Bool.{Bool, true, false, cond}
+use mathlib.Core.Bool.{true, cond}
 use mathlib.Core.List.{List, [], _∷_, _++_, map}
 use native.Mathlib.Omega.{arith}
 use lib.Dec.{ltb}
@@ -18,7 +18,7 @@ use Rattle.tokens.specs.Tokens.{streamOf}
 use Rattle.parse.specs.declared.Parse.{Parse}
 use Rattle.parse.specs.declared.Pushed.{Pushed}
 use Rattle.parse.specs.State.{tokenAt, placeOf}
-use Rattle.parse.specs.Cover.{Covers, pushed, once, struck, repeats}
+use Rattle.parse.specs.Cover.{Covers, pushed, struck, repeats}
 use Rattle.parse.proofs.Loop.{by-test}
 use Rattle.parse.proofs.Covered.{cover-count}
 use Rattle.segment.specs.Calls.{called}

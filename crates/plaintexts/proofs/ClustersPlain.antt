@@ -26,17 +26,15 @@ use Rattle.tokens.proofs.Accepted.{simple-says}
 use Rattle.tokens.proofs.Stream.{length-records}
 use Rattle.parse.specs.declared.Parse.{Parse}
 use Rattle.parse.specs.declared.Flow.the-variants.{GoOn, End}
-use Rattle.parse.specs.State.{tokenAt, placeOf, inMode}
+use Rattle.parse.specs.State.{tokenAt, placeOf}
 use Rattle.parse.specs.Cover.{repeatsOf, repeats}
 use Rattle.parse.proofs.Loop.{false-true, by-test}
-use Rattle.parse.proofs.Agree.{notFull, fine}
 use Rattle.simple.specs.Grammar.{isExtension}
 use Rattle.segment.specs.Calls.{grammar, called}
 use Rattle.segment.specs.Runs.{callsFrom}
 use Rattle.segment.proofs.Progress.{progress}
 use Rattle.segment.proofs.Turns.{call-within}
 use Rattle.segment.proofs.Laws.{accepted-short}
-use Rattle.segment.proofs.Demands.{modes-agree}
 use Rattle.plain.specs.Clusters.{controls, applies, decide, edge, any, GB1, beforeOf, boundaryAt, placesFrom, boundaries}
 use Rattle.plain.proofs.ClustersSides.{some-after}
 use Rattle.plaintexts.specs.Clusters.{plainKinds, extensions, plainMark, plainPair, plainAt, every, allShort, isPlain, startsFrom, clusterStarts}
@@ -158,13 +156,6 @@ module _ (mode : Mode) (stream breaks marks : List ℕ) (short : length stream �
       go Crate = refl
       go Whole = refl
 
-  -- nor is full, so that the modes agree in it
-  is-fine : (from : ℕ) (Q : ℕ → Type 0) (p : Parse) → After stream b from Q Nowhere p → p .len < 32 → fine p ≡ true
-  is-fine from Q p (full l) h = absurd (omega arith)
-  is-fine from Q p (over o) h = ap (λ f. cond (p .again) false (notFull f)) (o .flow) ∙ ap (λ a. cond a false true) (o .again)
-  is-fine from Q p (halted st x) h = absurd x
-  is-fine from Q p (goes st x) h = ap (λ f. cond (p .again) false (notFull f)) (st .flow) ∙ ap (λ a. cond a false true) (st .again)
-
   module _ (from : ℕ) (inside : from < length stream) (starts : b from ≡ true) where
     parts-at : (j : ℕ) → from < j → j < length stream → Calm breaks marks j → isExtension stream j ≡ false → b j ≡ true
     parts-at zero l h c x = absurd (omega arith)
@@ -184,10 +175,6 @@ module _ (mode : Mode) (stream breaks marks : List ℕ) (short : length stream �
     pub call-plain : (called Simple mode stream from) .len < 32 → Ends from (placeOf stream (called Simple mode stream from))
     unfolding called grammar
     call-plain h = ends-at (called Simple mode stream from) (call-after stream breaks marks shows plain from inside starts mode) h (progress Simple mode stream short from inside)
-
-    pub call-fine : (called Simple mode stream from) .len < 32 → fine (called Simple mode stream from) ≡ true
-    unfolding called grammar
-    call-fine h = is-fine from _ (called Simple mode stream from) (call-after stream breaks marks shows plain from inside starts mode) h
 
     pub call-once-only : (called Simple mode stream from) .len < 32 → repeats (called Simple mode stream from) ≡ 0
     unfolding called grammar
@@ -273,36 +260,3 @@ clusters-plain mode t accepted plain =
     starts-are mode stream breaks marks (accepted-short mode Simple t accepted) (stream-shows mode t accepted) (plain-columns breaks marks (told .0))
     (length stream) 0 (omega arith) (omega arith) (λ h. starts-at-0 breaks marks (omega arith)) (told .1)
     ∙ ap (placesFrom (boundaryAt breaks marks) 0) all
-
-both-true : (a c : Bool) → a ≡ true → c ≡ true → (a && c) ≡ true
-both-true a c e f = rw (e, f)
-
--- the calls of whole mode, where those of crate mode stay below 32
-short-alike : (stream breaks marks : List ℕ) → length stream ≤ 65535 → Shows stream breaks marks → Columns breaks marks → (n at : ℕ) → (at < length stream → boundaryAt breaks marks at ≡ true) → allShort (callsFrom Simple Crate stream n at) ≡ true → allShort (callsFrom Simple Whole stream n at) ≡ true
-unfolding allShort
-short-alike stream breaks marks short shows plain zero at s e = subst (λ ps. allShort ps ≡ true) (sym (calls-none Whole stream 0 at)) refl
-short-alike stream breaks marks short shows plain (suc n) at s e = by-test (ltb at (length stream))
-    (λ q. let p : Parse = called Simple Crate stream at in
-    let w : Parse = called Simple Whole stream at in
-    let i : at < length stream = ltb-true at (length stream) q in
-    let less = and-both (ltb (p .len) 32) _ (subst (λ ps. allShort ps ≡ true) (calls-more Crate stream n at q) e) in
-    let small : p .len < 32 = ltb-true (p .len) 32 (less .0) in
-    let ends = call-plain Crate stream breaks marks short shows plain at i (s i) small in
-    let agree : w ≡ inMode Whole p = modes-agree Simple stream at (call-fine Crate stream breaks marks short shows plain at i (s i) small) in
-    let rest : allShort (callsFrom Simple Whole stream n (placeOf stream w)) ≡ true =
-    subst (λ j. allShort (callsFrom Simple Whole stream n j) ≡ true) (sym (ap (placeOf stream) agree)) (short-alike stream breaks marks short shows plain n (placeOf stream p) (ends .1) (less .1)) in
-    subst (λ ps. allShort ps ≡ true) (sym (calls-more Whole stream n at q)) (both-true (ltb (w .len) 32) _ (ap (λ (u : Parse). ltb (u .len) 32) agree ∙ less .0) rest))
-    (λ q. subst (λ ps. allShort ps ≡ true) (sym (calls-over Whole stream n at q)) refl)
-
--- A text that is plain in crate mode is plain in whole mode too, and so parted alike by both modes and by UAX #29.
-pub plain-whole : (t : Text) → verdict Simple t ≡ Accepted → isPlain Crate t ≡ true → isPlain Whole t ≡ true
-unfolding isPlain streamOf
-plain-whole t accepted plain =
-    let stream : List ℕ = streamOf Crate Simple t in
-    let breaks : List ℕ = t .records .breaks in
-    let marks : List ℕ = t .records .semojis in
-    let told = and-both (every (plainAt breaks marks) (length breaks)) _ plain in
-    let size : length stream ≡ length breaks = stream-length Crate t accepted in
-    both-true (every (plainAt breaks marks) (length breaks)) _ (told .0)
-    (short-alike stream breaks marks (accepted-short Crate Simple t accepted) (stream-shows Crate t accepted) (plain-columns breaks marks (told .0))
-    (length stream) 0 (λ h. starts-at-0 breaks marks (omega arith)) (told .1))

@@ -4,6 +4,7 @@ pub mod ClustersAfter
 pub mod ClustersCall
 pub mod ClustersPlain
 pub mod ClustersNumbers
+pub mod ClustersModes
 pub mod WordsStep
 pub mod WordsPlain
 pub mod Differ

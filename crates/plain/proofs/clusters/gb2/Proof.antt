@@ -1,6 +1,5 @@
 use Rattle.plain.proofs.ClustersSides.{edges}
 use Rattle.plain.specs.Clusters.{applies, GB2}
-use borrow.Author.Needs.{needs}
 use Rattle.plain.proofs.clusters.gb2.Statement.{statement}
 use Rattle.plain.proofs.clusters.gb2.Tie as tie
 

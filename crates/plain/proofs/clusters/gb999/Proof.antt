@@ -2,7 +2,6 @@ use mathlib.Core.Path.{refl}
 use mathlib.Core.List.{[]}
 use Rattle.plain.proofs.ClustersSides.{edges, decided-last}
 use Rattle.plain.specs.Clusters.{applies, GB999}
-use borrow.Author.Needs.{needs}
 use Rattle.plain.proofs.clusters.gb999.Statement.{statement}
 use Rattle.plain.proofs.clusters.gb999.Tie as tie
 
