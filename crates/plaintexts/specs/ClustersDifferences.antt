@@ -68,7 +68,8 @@ differences =
     ∷ case (emoji XX ∷ no ZWJ ∷ emoji PP ∷ no XX ∷ []) (0 ∷ 3 ∷ []) (0 ∷ [])
     ∷ case (emoji PP ∷ no ZWJ ∷ emoji XX ∷ []) (0 ∷ 2 ∷ []) (0 ∷ [])
     ∷ case (no XX ∷ emoji EX ∷ no ZWJ ∷ emoji XX ∷ []) (0 ∷ 3 ∷ []) (0 ∷ [])
-    -- at most 32 characters
+    -- at most 32 characters: P08, and one more for whole mode
+    ∷ record { text = no XX ∷ replicate 31 (no EX); crate = 0 ∷ 31 ∷ []; whole = 0 ∷ []; annex = 0 ∷ [] }
     ∷ record { text = no XX ∷ replicate 32 (no EX); crate = 0 ∷ 31 ∷ []; whole = 0 ∷ 32 ∷ []; annex = 0 ∷ [] }
     ∷ []
 
