@@ -84,7 +84,7 @@ differences =
     ∷ clusters (emoji XX ∷ no ZWJ ∷ emoji PP ∷ no XX ∷ []) (0 ∷ 3 ∷ []) (0 ∷ [])
     ∷ clusters (emoji PP ∷ no ZWJ ∷ emoji XX ∷ []) (0 ∷ 2 ∷ []) (0 ∷ [])
     ∷ clusters (no XX ∷ emoji EX ∷ no ZWJ ∷ emoji XX ∷ []) (0 ∷ 3 ∷ []) (0 ∷ [])
-    -- at most 32 characters (P08)
+    -- at most 32 characters: P08, and one more for whole mode
     ∷ record { into = Clusters; text = no XX ∷ replicate 31 (no EX); crate = 0 ∷ 31 ∷ []; whole = 0 ∷ []; annex = 0 ∷ [] }
     ∷ record { into = Clusters; text = no XX ∷ replicate 32 (no EX); crate = 0 ∷ 31 ∷ []; whole = 0 ∷ 32 ∷ []; annex = 0 ∷ [] }
     -- WB3c: emoji ZWJ emoji is split as words (W1, P15), and after every other class too
