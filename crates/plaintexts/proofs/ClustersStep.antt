@@ -27,7 +27,8 @@ use Rattle.segment.proofs.Laws.{next-case, accepted-short}
 use Rattle.segment.proofs.Demands.{at}
 use Rattle.plain.specs.Clusters.{boundaryAt}
 use Rattle.plaintexts.specs.Clusters.{plainAt, every, allShort, isPlain}
-use Rattle.plaintexts.proofs.ClustersNeighbours.{and-both, Columns}
+use Rattle.plaintexts.proofs.Tests.{and-both}
+use Rattle.plaintexts.proofs.ClustersNeighbours.{Columns}
 use Rattle.plaintexts.proofs.ClustersAfter.{Joined}
 use Rattle.plaintexts.proofs.ClustersCall.{Shows}
 use Rattle.plaintexts.proofs.ClustersPlain.{stream-length, stream-shows, plain-columns, starts-at-0, call-plain, calls-more}
