@@ -20,7 +20,7 @@ pub(crate) fn end_of(xs: &[u8], at: usize, s: u8) -> usize
 }
 
 // Where the next part begins: the end of the text, where there is none.
-pub(crate) fn next_of(xs: &[u8], at: usize, s: u8) -> usize
+pub fn next_of(xs: &[u8], at: usize, s: u8) -> usize
     ensures { λ r. ⌜ drop r (now (xs .entry)) ≡ after s (drop at (now (xs .entry))) ⌝ }
 {
     let end = end_of(xs, at, s);
@@ -31,7 +31,7 @@ pub(crate) fn next_of(xs: &[u8], at: usize, s: u8) -> usize
 }
 
 // The part that begins at `at`.
-pub(crate) fn part_at(xs: &[u8], at: usize, s: u8) -> &[u8]
+pub fn part_at(xs: &[u8], at: usize, s: u8) -> &[u8]
     ensures { λ r. ⌜ now r ≡ upTo s (drop at (now (xs .entry))) ⌝ }
 {
     if xs.len() < at {
@@ -84,7 +84,7 @@ pub(crate) fn same(xs: &[u8], ys: &[u8]) -> bool
 }
 
 // The byte of a text of one byte, else 0, which no line has in such a place.
-pub(crate) fn sign(xs: &[u8]) -> u8
+pub fn sign(xs: &[u8]) -> u8
     ensures { λ r. ⌜ r ≡ Parts.sign (now (xs .entry)) ⌝ }
 {
     if xs.len() == 1 {
