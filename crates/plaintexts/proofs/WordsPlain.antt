@@ -103,5 +103,5 @@ module _ (words pictographs : List ℕ) (plain : isPlainWords words ≡ true) wh
   pub words-plain : answers words pictographs (length words) ≡ boundaries words pictographs (length words)
   words-plain = answers-plain (length words) (le-refl (length words))
 
-  pub run-plain : (out : List ℕ) → runVerdict words pictographs (length out) ≡ Accepted → runCells words pictographs out ≡ boundaries words pictographs (length words) ++ drop (length words) out
-  run-plain out e = rw (e, words-plain)
+  pub word-run-plain : (out : List ℕ) → runVerdict words pictographs (length out) ≡ Accepted → runCells words pictographs out ≡ boundaries words pictographs (length words) ++ drop (length words) out
+  word-run-plain out e = rw (e, words-plain)
