@@ -20,7 +20,7 @@ pub(crate) fn end_of(xs: &[u8], at: usize, s: u8) -> usize
 }
 
 // Where the next part begins: the end of the text, where there is none.
-pub(crate) fn next_of(xs: &[u8], at: usize, s: u8) -> usize
+pub fn next_of(xs: &[u8], at: usize, s: u8) -> usize
     ensures { λ r. ⌜ drop r (now (xs .entry)) ≡ after s (drop at (now (xs .entry))) ⌝ }
 {
     let end = end_of(xs, at, s);
@@ -31,7 +31,7 @@ pub(crate) fn next_of(xs: &[u8], at: usize, s: u8) -> usize
 }
 
 // The part that begins at `at`.
-pub(crate) fn part_at(xs: &[u8], at: usize, s: u8) -> &[u8]
+pub fn part_at(xs: &[u8], at: usize, s: u8) -> &[u8]
     ensures { λ r. ⌜ now r ≡ upTo s (drop at (now (xs .entry))) ⌝ }
 {
     if xs.len() < at {

@@ -1,0 +1,4 @@
+pub mod Lines
+pub mod Said
+pub mod Table
+pub mod Utf8

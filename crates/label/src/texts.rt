@@ -1,0 +1,83 @@
+// The scalars that a label is written with: UTF-8, or numbers such as U+1004 with one blank between.
+use crate::utf8::Decoded;
+use crate::utf8::decode;
+use cases::Base;
+use cases::Number;
+use cases::next_of;
+use cases::part_at;
+use cases::read_number;
+use records::cells::cell8;
+
+// How many scalars were read, or where none was: the byte or the number, counted from 0.
+pub enum Taken {
+    Scalars(usize),
+    NotUtf8(usize),
+    NotNumber(usize),
+}
+
+// A cell past the column's end is dropped: the column is longer than an accepted text.
+fn store(out: &mut [u32], n: usize, x: u32) -> usize {
+    if n < out.len() {
+        out[n] = x;
+        return n + 1;
+    }
+    n
+}
+
+fn read_utf8(bytes: &[u8], out: &mut [u32]) -> Taken {
+    let mut at: usize = 0;
+    let mut n: usize = 0;
+    while at < bytes.len() {
+        match decode(&bytes[at..]) {
+            Decoded::Scalar { value, length } => {
+                n = store(out, n, value);
+                at += length;
+            }
+            Decoded::Bad => {
+                return Taken::NotUtf8(at);
+            }
+        }
+    }
+    Taken::Scalars(n)
+}
+
+fn begins_number(word: &[u8]) -> bool {
+    if cell8(word, 0) == b'U' {
+        return cell8(word, 1) == b'+';
+    }
+    false
+}
+
+fn number(word: &[u8]) -> Number {
+    if word.len() < 2 {
+        return Number::Nothing;
+    }
+    if begins_number(word) {
+        return read_number(&word[2..], Base::Hexadecimal, 0xFFFFFFFF);
+    }
+    Number::Nothing
+}
+
+fn read_numbers(bytes: &[u8], out: &mut [u32]) -> Taken {
+    let mut at: usize = 0;
+    let mut n: usize = 0;
+    while at < bytes.len() {
+        match number(part_at(bytes, at, b' ')) {
+            Number::Value(x) => {
+                n = store(out, n, x);
+                at = next_of(bytes, at, b' ');
+            }
+            Number::Nothing => {
+                return Taken::NotNumber(n);
+            }
+        }
+    }
+    Taken::Scalars(n)
+}
+
+pub(crate) fn read(bytes: &[u8], out: &mut [u32]) -> Taken {
+    if begins_number(bytes) {
+        return read_numbers(bytes, out);
+    }
+    read_utf8(bytes, out)
+}
