@@ -62,14 +62,14 @@ said-in field [] x = refl
 said-in field (l ∷ ls) x =
     ap (cond (leb (l .first) x && leb x (l .last)) (field l))
     (seek-shift
-      (has (map (λ l. l .first) (l ∷ ls)) (map (λ l. l .last) (l ∷ ls)) x)
-      (has (map (λ l. l .first) ls) (map (λ l. l .last) ls) x)
-      (λ i. getD (map field (l ∷ ls)) i 0)
-      (λ i. getD (map field ls) i 0)
-      (λ i. refl)
-      (λ i. refl)
-      0
-      (length (map (λ l. l .first) ls))
+    (has (map (λ l. l .first) (l ∷ ls)) (map (λ l. l .last) (l ∷ ls)) x)
+    (has (map (λ l. l .first) ls) (map (λ l. l .last) ls) x)
+    (λ i. getD (map field (l ∷ ls)) i 0)
+    (λ i. getD (map field ls) i 0)
+    (λ i. refl)
+    (λ i. refl)
+    0
+    (length (map (λ l. l .first) ls))
     ∙ said-in field ls x)
 
 -- the field that the code was asked for

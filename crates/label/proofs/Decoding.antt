@@ -83,8 +83,8 @@ three-of-inside k x h =
     if-intro (Inside k) (ltb x 0x800) _ _
     (λ _. tt)
     (λ _. if-intro (Inside k) (ltb x 0xD800) _ _
-      (λ _. (omega arith, omega arith))
-      (λ _. if-intro (Inside k) (ltb x 0xE000) _ _ (λ _. tt) (λ _. (omega arith, omega arith))))
+    (λ _. (omega arith, omega arith))
+    (λ _. if-intro (Inside k) (ltb x 0xE000) _ _ (λ _. tt) (λ _. (omega arith, omega arith))))
 
 four-of-inside : (k x : ℕ) → 3 < k → Inside k (fourOf x)
 unfolding fourOf
@@ -110,8 +110,8 @@ module _ (s : List ℕ) (lead : ℕ) where
   four-inside =
       if-intro (Inside (length s)) (tail s 1) _ _
       (λ _. if-intro (Inside (length s)) (tail s 2) _ _
-        (λ _. if-intro (Inside (length s)) (tail s 3) _ _ (λ k. four-of-inside _ _ (tail-inside s 3 k)) (λ _. tt))
-        (λ _. tt))
+      (λ _. if-intro (Inside (length s)) (tail s 3) _ _ (λ k. four-of-inside _ _ (tail-inside s 3 k)) (λ _. tt))
+      (λ _. tt))
       (λ _. tt)
 
   from-inside : 0 < length s → Inside (length s) (decodeFrom s lead)
@@ -120,12 +120,12 @@ module _ (s : List ℕ) (lead : ℕ) where
       if-intro (Inside (length s)) (ltb lead 0x80) _ _
       (λ _. (omega arith, omega arith))
       (λ _. if-intro (Inside (length s)) (ltb lead 0xC2) _ _
-        (λ _. tt)
-        (λ _. if-intro (Inside (length s)) (ltb lead 0xE0) _ _
-          (λ _. two-inside)
-          (λ _. if-intro (Inside (length s)) (ltb lead 0xF0) _ _
-            (λ _. three-inside)
-            (λ _. if-intro (Inside (length s)) (ltb lead 0xF8) _ _ (λ _. four-inside) (λ _. tt)))))
+      (λ _. tt)
+      (λ _. if-intro (Inside (length s)) (ltb lead 0xE0) _ _
+      (λ _. two-inside)
+      (λ _. if-intro (Inside (length s)) (ltb lead 0xF0) _ _
+      (λ _. three-inside)
+      (λ _. if-intro (Inside (length s)) (ltb lead 0xF8) _ _ (λ _. four-inside) (λ _. tt)))))
 
 -- so the next character begins further on, and not past the end; r is what the decoder said of the bytes from `at` on
 pub read-inside : (bytes : List ℕ) (at x n : ℕ) (r : Decoded) → at < length bytes → r ≡ decodeOf (take (length bytes - at) (drop at bytes)) → r ≡ Scalar x n

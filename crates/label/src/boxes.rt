@@ -84,7 +84,9 @@ fn side_of(i: usize, from: usize) -> Side {
 
 // As long as the inside of a box is wide.
 fn bar() {
-    write(b"\xE2\x94\x81\xE2\x94\x81\xE2\x94\x81\xE2\x94\x81\xE2\x94\x81\xE2\x94\x81\xE2\x94\x81\xE2\x94\x81\xE2\x94\x81");
+    write(
+        b"\xE2\x94\x81\xE2\x94\x81\xE2\x94\x81\xE2\x94\x81\xE2\x94\x81\xE2\x94\x81\xE2\x94\x81\xE2\x94\x81\xE2\x94\x81",
+    );
 }
 
 // The top or the bottom of the boxes from a cell up to another.
@@ -223,9 +225,9 @@ fn row(
     lid(begins, from, to, n, Edge::Bottom);
     shapes_row(shapes, from, to);
     signs_row(scalars, from, to);
-    words_row(noteds, from, to, b"+noted  ");
-    words_row(brokens, from, to, b"broken  ");
     words_row(repeats, from, to, b"repeated");
+    words_row(brokens, from, to, b"broken  ");
+    words_row(noteds, from, to, b"+noted  ");
 }
 
 fn name(parser: Parser, mode: Mode) {

@@ -65,7 +65,7 @@ fn refused(number: u8, index: usize, scalars: &[u32]) {
     }
     write(b"character ");
     print::decimal(index);
-    write(b" from 0, U+");
+    write(b" (from 0), U+");
     print::hex(cell32(scalars, index));
     if number == 3 {
         write(b", is a surrogate or above U+10FFFF\n");
@@ -212,12 +212,12 @@ fn show(label: &[u8]) {
         Taken::NotUtf8(at) => {
             write(b"refused: no UTF-8 character begins at byte ");
             print::decimal(at);
-            write(b" from 0\n");
+            write(b" (from 0)\n");
         }
         Taken::NotNumber(k) => {
             write(b"refused: word ");
             print::decimal(k);
-            write(b" from 0 is not U+ with hexadecimal digits up to FFFFFFFF\n");
+            write(b" (from 0) is not U+ with hexadecimal digits up to FFFFFFFF\n");
         }
     }
 }

@@ -3,9 +3,6 @@ use Prim.Native.Nat.{_-_}
 use borrow.Author.Needs.{needs}
 use Rattle.label.proofs.add_all.Statement.{statement}
 use Rattle.label.proofs.add_all.Tie as tie
-use Rattle.label.proofs.add_all.Reads as reads
-use Rattle.label.proofs.add_all.Lts as lts
-use Rattle.label.proofs.add.Reads as add-reads
 
 abbrev Inv-loop : tie.InvT-loop
 Inv-loop label₀ bytes kept₀ i₀ label kept i = Unit {0}
@@ -13,31 +10,24 @@ Inv-loop label₀ bytes kept₀ i₀ label kept i = Unit {0}
 abbrev μ-loop : tie.MeasureT-loop
 μ-loop label₀ bytes kept₀ i₀ label kept i = length bytes - i
 
--- src/main.rt:349:5
 loop-holds : tie.Need-loop-holds Inv-loop μ-loop
 loop-holds c = search needs
 
--- src/main.rt:350:33
 shared-slice-read-add : tie.Need-shared-slice-read-add Inv-loop μ-loop
 shared-slice-read-add c = search needs
 
--- src/main.rt:350:9
 add-requires : tie.Need-add-requires Inv-loop μ-loop
 add-requires c κs = search needs
 
--- src/main.rt:351:9
 add-i : tie.Need-add-i Inv-loop μ-loop
 add-i c = search needs
 
--- src/main.rt:349:5
 loop-less : tie.Need-loop-less Inv-loop μ-loop
 loop-less c = search needs
 
--- src/main.rt:349:5
 loop-again : tie.Need-loop-again Inv-loop μ-loop
 loop-again c = search needs
 
--- src/main.rt:346:1
 returns : tie.Need-returns Inv-loop μ-loop
 returns c = search needs
 

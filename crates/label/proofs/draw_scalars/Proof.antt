@@ -4,120 +4,85 @@ use native.Mathlib.Omega.{arith}
 use borrow.Author.Needs.{needs}
 use Rattle.label.proofs.draw_scalars.Statement.{statement}
 use Rattle.label.proofs.draw_scalars.Tie as tie
-use Rattle.label.proofs.draw_scalars.Reads as reads
-use Rattle.label.proofs.draw_scalars.Lts as lts
-use Rattle.label.proofs.draw_modes.Reads as draw-modes-reads
-use Rattle.label.proofs.lookup.classed.Reads as classed-reads
-use Rattle.label.proofs.lookup.most.Reads as most-reads
-use Rattle.label.proofs.zeros.column16.Reads as column16-reads
-use Rattle.label.proofs.zeros.column8.Reads as column8-reads
-use Rattle.label.proofs.zeros.rests.Reads as rests-reads
 
--- src/main.rt:182:18
 classed-requires : tie.Need-classed-requires
 classed-requires c κs = search needs
 
--- src/main.rt:183:20
 classed-requires-2 : tie.Need-classed-requires-2
 classed-requires-2 c κs = search needs
 
--- src/main.rt:184:22
 classed-requires-3 : tie.Need-classed-requires-3
 classed-requires-3 c κs = search needs
 
--- src/main.rt:185:18
 classed-requires-4 : tie.Need-classed-requires-4
 classed-requires-4 c κs = search needs
 
--- src/main.rt:186:21
 classed-requires-5 : tie.Need-classed-requires-5
 classed-requires-5 c κs = search needs
 
--- src/main.rt:187:17
 rests-requires : tie.Need-rests-requires
 rests-requires c κs = search needs
 
--- src/main.rt:188:16
 column8-requires : tie.Need-column8-requires
 column8-requires c κs = search needs
 
--- src/main.rt:189:18
 column16-requires : tie.Need-column16-requires
 column16-requires c κs = search needs
 
--- src/main.rt:190:9
 most-requires : tie.Need-most-requires
 most-requires c κs = search needs
 
--- src/main.rt:193:9
 array-share-prefix-breaks : tie.Need-array-share-prefix-breaks
 array-share-prefix-breaks c = search needs
 
--- src/main.rt:193:9
 slice-aggregate-draw-modes : tie.Need-slice-aggregate-draw-modes
 slice-aggregate-draw-modes c = sym (length-take-le _ (c .before .before .before .before .before .before .before .before .before .classed .result) (omega (arith, c .before .before .before .before .before .before .before .before .before .classed .ensures .0, c .before .most .ensures)))
 
--- src/main.rt:194:9
 array-share-prefix-myanmars : tie.Need-array-share-prefix-myanmars
 array-share-prefix-myanmars c = search needs
 
--- src/main.rt:194:9
 slice-aggregate-draw-modes-2 : tie.Need-slice-aggregate-draw-modes-2
 slice-aggregate-draw-modes-2 c = sym (length-take-le _ (c .before .before .before .before .before .before .before .before .before .classed2 .result) (omega (arith, c .before .before .before .before .before .before .before .before .before .classed2 .ensures .0, c .before .before .most .ensures)))
 
--- src/main.rt:195:9
 array-share-prefix-categories : tie.Need-array-share-prefix-categories
 array-share-prefix-categories c = search needs
 
--- src/main.rt:195:9
 slice-aggregate-draw-modes-3 : tie.Need-slice-aggregate-draw-modes-3
 slice-aggregate-draw-modes-3 c = sym (length-take-le _ (c .before .before .before .before .before .before .before .before .before .classed3 .result) (omega (arith, c .before .before .before .before .before .before .before .before .before .classed3 .ensures .0, c .before .before .before .most .ensures)))
 
--- src/main.rt:196:9
 array-share-prefix-emojis : tie.Need-array-share-prefix-emojis
 array-share-prefix-emojis c = search needs
 
--- src/main.rt:196:9
 slice-aggregate-draw-modes-4 : tie.Need-slice-aggregate-draw-modes-4
 slice-aggregate-draw-modes-4 c = sym (length-take-le _ (c .before .before .before .before .before .before .before .before .before .classed4 .result) (omega (arith, c .before .before .before .before .before .before .before .before .before .classed4 .ensures .0, c .before .before .before .before .most .ensures)))
 
--- src/main.rt:197:9
 array-share-prefix-selectors : tie.Need-array-share-prefix-selectors
 array-share-prefix-selectors c = search needs
 
--- src/main.rt:197:9
 slice-aggregate-draw-modes-5 : tie.Need-slice-aggregate-draw-modes-5
 slice-aggregate-draw-modes-5 c = sym (length-take-le _ (c .before .before .before .before .before .before .before .before .before .classed5 .result) (omega (arith, c .before .before .before .before .before .before .before .before .before .classed5 .ensures .0, c .before .before .before .before .before .most .ensures)))
 
--- src/main.rt:198:9
 array-share-prefix-rests : tie.Need-array-share-prefix-rests
 array-share-prefix-rests c = search needs
 
--- src/main.rt:198:9
 slice-aggregate-draw-modes-6 : tie.Need-slice-aggregate-draw-modes-6
 slice-aggregate-draw-modes-6 c = sym (length-take-le _ (c .before .before .before .before .before .before .before .before .before .rests .result) (omega (arith, c .before .before .before .before .before .before .before .before .before .rests .ensures, c .before .before .before .before .before .before .most .ensures)))
 
--- src/main.rt:199:9
 array-share-prefix-none : tie.Need-array-share-prefix-none
 array-share-prefix-none c = search needs
 
--- src/main.rt:199:9
 slice-aggregate-draw-modes-7 : tie.Need-slice-aggregate-draw-modes-7
 slice-aggregate-draw-modes-7 c = sym (length-take-le _ (c .before .before .before .before .before .before .before .before .before .column8 .result) (omega (arith, c .before .before .before .before .before .before .before .before .before .column8 .ensures, c .before .before .before .before .before .before .before .most .ensures)))
 
--- src/main.rt:200:9
 array-share-prefix-firsts : tie.Need-array-share-prefix-firsts
 array-share-prefix-firsts c = search needs
 
--- src/main.rt:200:9
 slice-aggregate-draw-modes-8 : tie.Need-slice-aggregate-draw-modes-8
 slice-aggregate-draw-modes-8 c = sym (length-take-le _ (c .before .before .before .before .before .before .before .before .before .column16 .result) (omega (arith, c .before .before .before .before .before .before .before .before .before .column16 .ensures, c .before .before .before .before .before .before .before .before .most .ensures)))
 
--- src/main.rt:191:5
 draw-modes-requires : tie.Need-draw-modes-requires
 draw-modes-requires c κs = search needs
 
--- src/main.rt:181:1
 returns : tie.Need-returns
 returns c = search needs
 

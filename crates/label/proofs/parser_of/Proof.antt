@@ -3,9 +3,6 @@ use Prim.Native.Nat.{_-_}
 use borrow.Author.Needs.{needs}
 use Rattle.label.proofs.parser_of.Statement.{statement}
 use Rattle.label.proofs.parser_of.Tie as tie
-use Rattle.label.proofs.parser_of.Reads as reads
-use Rattle.label.proofs.parser_of.Lts as lts
-use Rattle.label.proofs.is_myanmar.Reads as is-myanmar-reads
 
 abbrev Inv-loop : tie.InvT-loop
 Inv-loop scalars i₀ i = Unit {0}
@@ -13,39 +10,30 @@ Inv-loop scalars i₀ i = Unit {0}
 abbrev μ-loop : tie.MeasureT-loop
 μ-loop scalars i₀ i = length scalars - i
 
--- src/main.rt:48:5
 loop-holds : tie.Need-loop-holds Inv-loop μ-loop
 loop-holds c = search needs
 
--- src/main.rt:49:23
 mul-is-myanmar : tie.Need-mul-is-myanmar Inv-loop μ-loop
 mul-is-myanmar c = search needs
 
--- src/main.rt:49:23
 shared-slice-read-is-myanmar : tie.Need-shared-slice-read-is-myanmar Inv-loop μ-loop
 shared-slice-read-is-myanmar c = search needs
 
--- src/main.rt:49:12
 is-myanmar-requires : tie.Need-is-myanmar-requires Inv-loop μ-loop
 is-myanmar-requires c κs = search needs
 
--- src/main.rt:50:13
 returns : tie.Need-returns Inv-loop μ-loop
 returns c = search needs
 
--- src/main.rt:52:9
 add-i : tie.Need-add-i Inv-loop μ-loop
 add-i c = search needs
 
--- src/main.rt:48:5
 loop-less : tie.Need-loop-less Inv-loop μ-loop
 loop-less c = search needs
 
--- src/main.rt:48:5
 loop-again : tie.Need-loop-again Inv-loop μ-loop
 loop-again c = search needs
 
--- src/main.rt:46:1
 returns-2 : tie.Need-returns-2 Inv-loop μ-loop
 returns-2 c = search needs
 

@@ -1,9 +1,6 @@
 use borrow.Author.Needs.{needs}
 use Rattle.label.proofs.read_all.Statement.{statement}
 use Rattle.label.proofs.read_all.Tie as tie
-use Rattle.label.proofs.read_all.Reads as reads
-use Rattle.label.proofs.read_all.Lts as lts
-use Rattle.label.proofs.read_some.Reads as read-some-reads
 
 abbrev Inv-loop : tie.InvT-loop
 Inv-loop label₀ turn₀ turns₀ label turn turns = Unit {0}
@@ -11,35 +8,27 @@ Inv-loop label₀ turn₀ turns₀ label turn turns = Unit {0}
 abbrev μ-loop : tie.MeasureT-loop
 μ-loop label₀ turn₀ turns₀ label turn turns = turns
 
--- src/main.rt:301:5
 loop-holds : tie.Need-loop-holds Inv-loop μ-loop
 loop-holds c = search needs
 
--- src/main.rt:302:9
 read-some-requires : tie.Need-read-some-requires Inv-loop μ-loop
 read-some-requires c κs = search needs
 
--- src/main.rt:304:13
 sub-turns : tie.Need-sub-turns Inv-loop μ-loop
 sub-turns c = search needs
 
--- src/main.rt:301:5
 loop-less : tie.Need-loop-less Inv-loop μ-loop
 loop-less c = search needs
 
--- src/main.rt:301:5
 loop-again : tie.Need-loop-again Inv-loop μ-loop
 loop-again c = search needs
 
--- src/main.rt:301:5
 loop-less-2 : tie.Need-loop-less-2 Inv-loop μ-loop
 loop-less-2 c = search needs
 
--- src/main.rt:301:5
 loop-again-2 : tie.Need-loop-again-2 Inv-loop μ-loop
 loop-again-2 c = search needs
 
--- src/main.rt:295:1
 returns : tie.Need-returns Inv-loop μ-loop
 returns c = search needs
 

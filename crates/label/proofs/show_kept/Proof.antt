@@ -3,36 +3,25 @@ use mathlib.Core.Path.{sym}
 use borrow.Author.Needs.{needs}
 use Rattle.label.proofs.show_kept.Statement.{statement}
 use Rattle.label.proofs.show_kept.Tie as tie
-use Rattle.label.proofs.show_kept.Reads as reads
-use Rattle.label.proofs.show_kept.Lts as lts
-use Rattle.label.proofs.print.write.Reads as write-reads
-use Rattle.label.proofs.show.Reads as show-reads
 
--- src/main.rt:253:15
 slice-aggregate-write : tie.Need-slice-aggregate-write
 slice-aggregate-write c = search needs
 
--- src/main.rt:253:9
 write-requires : tie.Need-write-requires
 write-requires c κs = search needs
 
--- src/main.rt:255:14
 slice-aggregate-show : tie.Need-slice-aggregate-show
 slice-aggregate-show c = sym (length-take-le _ _ (c .before .if2 .taken))
 
--- src/main.rt:255:9
 show-requires : tie.Need-show-requires
 show-requires c κs = search needs
 
--- src/main.rt:250:1
 returns : tie.Need-returns
 returns c = search needs
 
--- src/main.rt:250:1
 returns-2 : tie.Need-returns-2
 returns-2 c = search needs
 
--- src/main.rt:250:1
 returns-3 : tie.Need-returns-3
 returns-3 c = search needs
 

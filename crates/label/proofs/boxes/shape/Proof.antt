@@ -2,10 +2,6 @@ use Prim.Native.Nat.{_-_}
 use borrow.Author.Needs.{needs}
 use Rattle.label.proofs.boxes.shape.Statement.{statement}
 use Rattle.label.proofs.boxes.shape.Tie as tie
-use Rattle.label.proofs.boxes.shape.Reads as reads
-use Rattle.label.proofs.boxes.shape.Lts as lts
-use Rattle.label.proofs.print.write.Reads as write-reads
-use Rattle.records.proofs.cells.cell8.Reads as cell8-reads
 
 abbrev Inv-loop : tie.InvT-loop
 Inv-loop names code from i₀ i-end i = Unit {0}
@@ -13,47 +9,36 @@ Inv-loop names code from i₀ i-end i = Unit {0}
 abbrev μ-loop : tie.MeasureT-loop
 μ-loop names code from i₀ i-end i = i-end - i
 
--- src/boxes.rt:124:20
 mul-from : tie.Need-mul-from Inv-loop μ-loop
 mul-from c = search needs
 
--- src/boxes.rt:125:24
 add-i-end : tie.Need-add-i-end Inv-loop μ-loop
 add-i-end c = search needs
 
--- src/boxes.rt:125:9
 loop-holds : tie.Need-loop-holds Inv-loop μ-loop
 loop-holds c = search needs
 
--- src/boxes.rt:126:21
 cell8-requires : tie.Need-cell8-requires Inv-loop μ-loop
 cell8-requires c κs = search needs
 
--- src/boxes.rt:126:19
 slice-aggregate-write : tie.Need-slice-aggregate-write Inv-loop μ-loop
 slice-aggregate-write c = search needs
 
--- src/boxes.rt:126:13
 write-requires : tie.Need-write-requires Inv-loop μ-loop
 write-requires c κs = search needs
 
--- src/boxes.rt:125:13
 add-i : tie.Need-add-i Inv-loop μ-loop
 add-i c = search needs
 
--- src/boxes.rt:125:9
 loop-less : tie.Need-loop-less Inv-loop μ-loop
 loop-less c = search needs
 
--- src/boxes.rt:125:9
 loop-again : tie.Need-loop-again Inv-loop μ-loop
 loop-again c = search needs
 
--- src/boxes.rt:122:1
 returns : tie.Need-returns Inv-loop μ-loop
 returns c = search needs
 
--- src/boxes.rt:122:1
 returns-2 : tie.Need-returns-2 Inv-loop μ-loop
 returns-2 c = search needs
 

@@ -2,11 +2,6 @@ use Prim.Native.Nat.{_-_}
 use borrow.Author.Needs.{needs}
 use Rattle.label.proofs.boxes.shapes_row.Statement.{statement}
 use Rattle.label.proofs.boxes.shapes_row.Tie as tie
-use Rattle.label.proofs.boxes.shapes_row.Reads as reads
-use Rattle.label.proofs.boxes.shapes_row.Lts as lts
-use Rattle.label.proofs.boxes.shape.Reads as shape-reads
-use Rattle.label.proofs.print.write.Reads as write-reads
-use Rattle.records.proofs.cells.cell8.Reads as cell8-reads
 
 abbrev Inv-loop : tie.InvT-loop
 Inv-loop shapes from to i₀ t5 t6 t7 i = Unit {0}
@@ -14,47 +9,36 @@ Inv-loop shapes from to i₀ t5 t6 t7 i = Unit {0}
 abbrev μ-loop : tie.MeasureT-loop
 μ-loop shapes from to i₀ t5 t6 t7 i = to - i
 
--- src/boxes.rt:132:5
 loop-holds : tie.Need-loop-holds Inv-loop μ-loop
 loop-holds c = search needs
 
--- src/boxes.rt:133:15
 slice-aggregate-write : tie.Need-slice-aggregate-write Inv-loop μ-loop
 slice-aggregate-write c = search needs
 
--- src/boxes.rt:133:9
 write-requires : tie.Need-write-requires Inv-loop μ-loop
 write-requires c κs = search needs
 
--- src/boxes.rt:136:13
 cell8-requires : tie.Need-cell8-requires Inv-loop μ-loop
 cell8-requires c κs = search needs
 
--- src/boxes.rt:134:9
 shape-requires : tie.Need-shape-requires Inv-loop μ-loop
 shape-requires c κs = search needs
 
--- src/boxes.rt:132:9
 add-i : tie.Need-add-i Inv-loop μ-loop
 add-i c = search needs
 
--- src/boxes.rt:132:5
 loop-less : tie.Need-loop-less Inv-loop μ-loop
 loop-less c = search needs
 
--- src/boxes.rt:132:5
 loop-again : tie.Need-loop-again Inv-loop μ-loop
 loop-again c = search needs
 
--- src/boxes.rt:139:11
 slice-aggregate-write-2 : tie.Need-slice-aggregate-write-2 Inv-loop μ-loop
 slice-aggregate-write-2 c = search needs
 
--- src/boxes.rt:139:5
 write-requires-2 : tie.Need-write-requires-2 Inv-loop μ-loop
 write-requires-2 c κs = search needs
 
--- src/boxes.rt:131:1
 returns : tie.Need-returns Inv-loop μ-loop
 returns c = search needs
 

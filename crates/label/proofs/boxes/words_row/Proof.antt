@@ -2,12 +2,6 @@ use Prim.Native.Nat.{_-_}
 use borrow.Author.Needs.{needs}
 use Rattle.label.proofs.boxes.words_row.Statement.{statement}
 use Rattle.label.proofs.boxes.words_row.Tie as tie
-use Rattle.label.proofs.boxes.words_row.Reads as reads
-use Rattle.label.proofs.boxes.words_row.Lts as lts
-use Rattle.label.proofs.boxes.count_in.Reads as count-in-reads
-use Rattle.label.proofs.print.blanks.Reads as blanks-reads
-use Rattle.label.proofs.print.write.Reads as write-reads
-use Rattle.records.proofs.cells.cell8.Reads as cell8-reads
 
 abbrev Inv-loop : tie.InvT-loop
 Inv-loop marks from to word i₀ t6 t7 i = Unit {0}
@@ -15,59 +9,45 @@ Inv-loop marks from to word i₀ t6 t7 i = Unit {0}
 abbrev μ-loop : tie.MeasureT-loop
 μ-loop marks from to word i₀ t6 t7 i = to - i
 
--- src/boxes.rt:196:8
 count-in-requires : tie.Need-count-in-requires Inv-loop μ-loop
 count-in-requires c κs = search needs
 
--- src/boxes.rt:197:9
 returns : tie.Need-returns Inv-loop μ-loop
 returns c = search needs
 
--- src/boxes.rt:199:5
 loop-holds : tie.Need-loop-holds Inv-loop μ-loop
 loop-holds c = search needs
 
--- src/boxes.rt:200:15
 slice-aggregate-write : tie.Need-slice-aggregate-write Inv-loop μ-loop
 slice-aggregate-write c = search needs
 
--- src/boxes.rt:200:9
 write-requires : tie.Need-write-requires Inv-loop μ-loop
 write-requires c κs = search needs
 
--- src/boxes.rt:201:12
 cell8-requires : tie.Need-cell8-requires Inv-loop μ-loop
 cell8-requires c κs = search needs
 
--- src/boxes.rt:202:13
 write-requires-2 : tie.Need-write-requires-2 Inv-loop μ-loop
 write-requires-2 c κs = search needs
 
--- src/boxes.rt:204:13
 blanks-requires : tie.Need-blanks-requires Inv-loop μ-loop
 blanks-requires c κs = search needs
 
--- src/boxes.rt:199:9
 add-i : tie.Need-add-i Inv-loop μ-loop
 add-i c = search needs
 
--- src/boxes.rt:199:5
 loop-less : tie.Need-loop-less Inv-loop μ-loop
 loop-less c = search needs
 
--- src/boxes.rt:199:5
 loop-again : tie.Need-loop-again Inv-loop μ-loop
 loop-again c = search needs
 
--- src/boxes.rt:207:11
 slice-aggregate-write-2 : tie.Need-slice-aggregate-write-2 Inv-loop μ-loop
 slice-aggregate-write-2 c = search needs
 
--- src/boxes.rt:207:5
 write-requires-3 : tie.Need-write-requires-3 Inv-loop μ-loop
 write-requires-3 c κs = search needs
 
--- src/boxes.rt:195:1
 returns-2 : tie.Need-returns-2 Inv-loop μ-loop
 returns-2 c = search needs
 

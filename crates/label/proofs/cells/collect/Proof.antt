@@ -1,11 +1,6 @@
 use borrow.Author.Needs.{needs}
 use Rattle.label.proofs.cells.collect.Statement.{statement}
 use Rattle.label.proofs.cells.collect.Tie as tie
-use Rattle.label.proofs.cells.collect.Reads as reads
-use Rattle.label.proofs.cells.collect.Lts as lts
-use Rattle.label.proofs.cells.next.Reads as next-reads
-use Rattle.label.proofs.cells.put_cluster.Reads as put-cluster-reads
-use Rattle.segment.proofs.Segmenter.start.Reads as start-reads
 
 abbrev Inv-loop : tie.InvT-loop
 Inv-loop scalars breaks myanmars categories emojis selectors rests zeros firsts oscalars₀ shapes₀ begins₀ brokens₀ repeats₀ noteds₀ seen₀ state₀ turns₀ oscalars shapes begins brokens repeats noteds seen state turns = Unit {0}
@@ -13,59 +8,45 @@ Inv-loop scalars breaks myanmars categories emojis selectors rests zeros firsts 
 abbrev μ-loop : tie.MeasureT-loop
 μ-loop scalars breaks myanmars categories emojis selectors rests zeros firsts oscalars₀ shapes₀ begins₀ brokens₀ repeats₀ noteds₀ seen₀ state₀ turns₀ oscalars shapes begins brokens repeats noteds seen state turns = turns
 
--- src/cells.rt:150:9
 start-requires : tie.Need-start-requires Inv-loop μ-loop
 start-requires c κs = search needs
 
--- src/cells.rt:152:5
 loop-holds : tie.Need-loop-holds Inv-loop μ-loop
 loop-holds c = search needs
 
--- src/cells.rt:153:13
 next-requires : tie.Need-next-requires Inv-loop μ-loop
 next-requires c κs = search needs
 
--- src/cells.rt:173:21
 enum-told : tie.Need-enum-told Inv-loop μ-loop
 enum-told c = search needs
 
--- src/cells.rt:170:17
 put-cluster-requires : tie.Need-put-cluster-requires Inv-loop μ-loop
 put-cluster-requires c κs = search needs
 
--- src/cells.rt:180:17
 sub-turns : tie.Need-sub-turns Inv-loop μ-loop
 sub-turns c = search needs
 
--- src/cells.rt:152:5
 loop-less : tie.Need-loop-less Inv-loop μ-loop
 loop-less c = search needs
 
--- src/cells.rt:152:5
 loop-again : tie.Need-loop-again Inv-loop μ-loop
 loop-again c = search needs
 
--- src/cells.rt:183:17
 enum-told-2 : tie.Need-enum-told-2 Inv-loop μ-loop
 enum-told-2 c = search needs
 
--- src/cells.rt:152:5
 loop-less-2 : tie.Need-loop-less-2 Inv-loop μ-loop
 loop-less-2 c = search needs
 
--- src/cells.rt:152:5
 loop-again-2 : tie.Need-loop-again-2 Inv-loop μ-loop
 loop-again-2 c = search needs
 
--- src/cells.rt:186:17
 enum-known-what : tie.Need-enum-known-what Inv-loop μ-loop
 enum-known-what c = search needs
 
--- src/cells.rt:190:17
 returns : tie.Need-returns Inv-loop μ-loop
 returns c = search needs
 
--- src/cells.rt:130:1
 returns-2 : tie.Need-returns-2 Inv-loop μ-loop
 returns-2 c = search needs
 

@@ -2,9 +2,6 @@ use Prim.Native.Nat.{_-_}
 use borrow.Author.Needs.{needs}
 use Rattle.label.proofs.cells.put_cluster.Statement.{statement}
 use Rattle.label.proofs.cells.put_cluster.Tie as tie
-use Rattle.label.proofs.cells.put_cluster.Reads as reads
-use Rattle.label.proofs.cells.put_cluster.Lts as lts
-use Rattle.label.proofs.cells.put.Reads as put-reads
 
 abbrev Inv-loop : tie.InvT-loop
 Inv-loop scalars₀ shapes₀ begins₀ brokens₀ repeats₀ noteds₀ chars len broken seen₀ i₀ scalars shapes begins brokens repeats noteds seen i = Unit {0}
@@ -12,35 +9,27 @@ Inv-loop scalars₀ shapes₀ begins₀ brokens₀ repeats₀ noteds₀ chars le
 abbrev μ-loop : tie.MeasureT-loop
 μ-loop scalars₀ shapes₀ begins₀ brokens₀ repeats₀ noteds₀ chars len broken seen₀ i₀ scalars shapes begins brokens repeats noteds seen i = 32 - i
 
--- src/cells.rt:75:5
 loop-holds : tie.Need-loop-holds Inv-loop μ-loop
 loop-holds c = search needs
 
--- src/cells.rt:78:17
 mul-put : tie.Need-mul-put Inv-loop μ-loop
 mul-put c = search needs
 
--- src/cells.rt:78:17
 array-copy-out-put : tie.Need-array-copy-out-put Inv-loop μ-loop
 array-copy-out-put c = search needs
 
--- src/cells.rt:77:13
 put-requires : tie.Need-put-requires Inv-loop μ-loop
 put-requires c κs = search needs
 
--- src/cells.rt:75:9
 add-i : tie.Need-add-i Inv-loop μ-loop
 add-i c = search needs
 
--- src/cells.rt:75:5
 loop-less : tie.Need-loop-less Inv-loop μ-loop
 loop-less c = search needs
 
--- src/cells.rt:75:5
 loop-again : tie.Need-loop-again Inv-loop μ-loop
 loop-again c = search needs
 
--- src/cells.rt:61:1
 returns : tie.Need-returns Inv-loop μ-loop
 returns c = search needs
 

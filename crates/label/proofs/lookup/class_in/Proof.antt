@@ -5,10 +5,6 @@ use Rattle.label.proofs.Columns.{Left, left-all, found-none, found-low,
 use borrow.Author.Needs.{needs}
 use Rattle.label.proofs.lookup.class_in.Statement.{statement}
 use Rattle.label.proofs.lookup.class_in.Tie as tie
-use Rattle.label.proofs.lookup.class_in.Reads as reads
-use Rattle.label.proofs.lookup.class_in.Lts as lts
-use Rattle.records.proofs.cells.cell32.Reads as cell32-reads
-use Rattle.records.proofs.cells.cell8.Reads as cell8-reads
 
 abbrev Inv-loop : tie.InvT-loop
 Inv-loop firsts lasts classes x i₀ i = Left firsts lasts classes x i
@@ -16,39 +12,30 @@ Inv-loop firsts lasts classes x i₀ i = Left firsts lasts classes x i
 abbrev μ-loop : tie.MeasureT-loop
 μ-loop firsts lasts classes x i₀ i = length firsts - i
 
--- src/lookup.rt:13:5
 loop-holds : tie.Need-loop-holds Inv-loop μ-loop
 loop-holds c = search left-all
 
--- src/lookup.rt:14:12
 mul-if1 : tie.Need-mul-if1 Inv-loop μ-loop
 mul-if1 c = search needs
 
--- src/lookup.rt:14:12
 shared-slice-read-if1 : tie.Need-shared-slice-read-if1 Inv-loop μ-loop
 shared-slice-read-if1 c = search needs
 
--- src/lookup.rt:15:21
 cell32-requires : tie.Need-cell32-requires Inv-loop μ-loop
 cell32-requires c κs = search needs
 
--- src/lookup.rt:16:17
 cell8-requires : tie.Need-cell8-requires Inv-loop μ-loop
 cell8-requires c κs = search needs
 
--- src/lookup.rt:16:17
 returns : tie.Need-returns Inv-loop μ-loop
 returns c = search found-here
 
--- src/lookup.rt:19:9
 add-i : tie.Need-add-i Inv-loop μ-loop
 add-i c = search needs
 
--- src/lookup.rt:13:5
 loop-less : tie.Need-loop-less Inv-loop μ-loop
 loop-less c = search needs
 
--- src/lookup.rt:13:5
 loop-again : tie.Need-loop-again Inv-loop μ-loop
 loop-again c =
     ⊎-elim
@@ -56,7 +43,6 @@ loop-again c =
     (λ w. found-low _ _ _ _ _ (c .before .before .before .loop .inv) (c .before .before .loop-test .taken) (w .left))
     (c .if1 .came)
 
--- src/lookup.rt:11:1
 returns-2 : tie.Need-returns-2 Inv-loop μ-loop
 returns-2 c = search found-none
 

@@ -9,11 +9,6 @@ use Rattle.label.proofs.Columns.{classed-more}
 use borrow.Author.Needs.{needs}
 use Rattle.label.proofs.lookup.classed.Statement.{statement}
 use Rattle.label.proofs.lookup.classed.Tie as tie
-use Rattle.label.proofs.lookup.classed.Reads as reads
-use Rattle.label.proofs.lookup.classed.Lts as lts
-use Rattle.label.proofs.lookup.class_of.Reads as class-of-reads
-use Rattle.label.proofs.lookup.most.Reads as most-reads
-use Rattle.label.proofs.zeros.column8.Reads as column8-reads
 
 abbrev Inv-loop : tie.InvT-loop
 Inv-loop field scalars column₀ n i₀ column i = (i ≤ n) × ((4097 ≡ length column) × (take i column ≡ cells (saidAt field scalars) i))
@@ -21,47 +16,36 @@ Inv-loop field scalars column₀ n i₀ column i = (i ≤ n) × ((4097 ≡ lengt
 abbrev μ-loop : tie.MeasureT-loop
 μ-loop field scalars column₀ n i₀ column i = n - i
 
--- src/lookup.rt:69:22
 column8-requires : tie.Need-column8-requires Inv-loop μ-loop
 column8-requires c κs = search needs
 
--- src/lookup.rt:70:9
 most-requires : tie.Need-most-requires Inv-loop μ-loop
 most-requires c κs = search needs
 
--- src/lookup.rt:72:5
 loop-holds : tie.Need-loop-holds Inv-loop μ-loop
 loop-holds c = unfold cells in (search needs, (search needs, refl))
 
--- src/lookup.rt:73:37
 mul-class-of : tie.Need-mul-class-of Inv-loop μ-loop
 mul-class-of c = search needs
 
--- src/lookup.rt:73:37
 shared-slice-read-class-of : tie.Need-shared-slice-read-class-of Inv-loop μ-loop
 shared-slice-read-class-of c = search needs
 
--- src/lookup.rt:73:21
 class-of-requires : tie.Need-class-of-requires Inv-loop μ-loop
 class-of-requires c κs = search needs
 
--- src/lookup.rt:73:9
 array-write-column : tie.Need-array-write-column Inv-loop μ-loop
 array-write-column c = search needs
 
--- src/lookup.rt:74:9
 add-i : tie.Need-add-i Inv-loop μ-loop
 add-i c = search needs
 
--- src/lookup.rt:72:5
 loop-less : tie.Need-loop-less Inv-loop μ-loop
 loop-less c = search needs
 
--- src/lookup.rt:72:5
 loop-again : tie.Need-loop-again Inv-loop μ-loop
 loop-again c = (search needs, (search needs, classed-more _ _ (c .before .before .before .loop .column) _ _ (omega arith) (c .class-of .ensures) (c .before .before .before .loop .inv .1 .1)))
 
--- src/lookup.rt:65:1
 returns : tie.Need-returns Inv-loop μ-loop
 returns c =
     let e : c .before .loop .i ≡ min (length (now (c .before .before .before .before .before .args .scalars))) 4097 = omega (arith, c .before .before .most .ensures) in

@@ -4,12 +4,6 @@ use lib.ListN.{length, drop}
 use borrow.Author.Needs.{needs}
 use Rattle.label.proofs.texts.read_numbers.Statement.{statement}
 use Rattle.label.proofs.texts.read_numbers.Tie as tie
-use Rattle.label.proofs.texts.read_numbers.Reads as reads
-use Rattle.label.proofs.texts.read_numbers.Lts as lts
-use Rattle.cases.proofs.next_of.Reads as next-of-reads
-use Rattle.cases.proofs.part_at.Reads as part-at-reads
-use Rattle.label.proofs.texts.number.Reads as number-reads
-use Rattle.label.proofs.texts.store.Reads as store-reads
 
 abbrev Inv-loop : tie.InvT-loop
 Inv-loop bytes out₀ at₀ n₀ out at n = length out ≡ length out₀
@@ -17,55 +11,42 @@ Inv-loop bytes out₀ at₀ n₀ out at n = length out ≡ length out₀
 abbrev μ-loop : tie.MeasureT-loop
 μ-loop bytes out₀ at₀ n₀ out at n = length (drop at bytes)
 
--- src/texts.rt:64:5
 loop-holds : tie.Need-loop-holds Inv-loop μ-loop
 loop-holds c = search needs
 
--- src/texts.rt:65:22
 part-at-requires : tie.Need-part-at-requires Inv-loop μ-loop
 part-at-requires c κs = search needs
 
--- src/texts.rt:65:15
 number-requires : tie.Need-number-requires Inv-loop μ-loop
 number-requires c κs = search needs
 
--- src/texts.rt:66:27
 enum-known-x : tie.Need-enum-known-x Inv-loop μ-loop
 enum-known-x c = search needs
 
--- src/texts.rt:67:17
 store-requires : tie.Need-store-requires Inv-loop μ-loop
 store-requires c κs = search needs
 
--- src/texts.rt:68:17
 next-of-requires : tie.Need-next-of-requires Inv-loop μ-loop
 next-of-requires c κs = search needs
 
--- src/texts.rt:64:5
 loop-less : tie.Need-loop-less Inv-loop μ-loop
 loop-less c = search next-falls
 
--- src/texts.rt:64:5
 loop-again : tie.Need-loop-again Inv-loop μ-loop
 loop-again c = search needs
 
--- src/texts.rt:71:17
 enum-told : tie.Need-enum-told Inv-loop μ-loop
 enum-told c = search needs
 
--- src/texts.rt:71:17
 same-length : tie.Need-same-length Inv-loop μ-loop
 same-length c = search needs
 
--- src/texts.rt:71:17
 returns : tie.Need-returns Inv-loop μ-loop
 returns c = search needs
 
--- src/texts.rt:61:1
 same-length-2 : tie.Need-same-length-2 Inv-loop μ-loop
 same-length-2 c = search needs
 
--- src/texts.rt:61:1
 returns-2 : tie.Need-returns-2 Inv-loop μ-loop
 returns-2 c = search needs
 

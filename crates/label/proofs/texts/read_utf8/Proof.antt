@@ -6,10 +6,6 @@ use Prim.Native.Nat.{_-_}
 use borrow.Author.Needs.{needs}
 use Rattle.label.proofs.texts.read_utf8.Statement.{statement}
 use Rattle.label.proofs.texts.read_utf8.Tie as tie
-use Rattle.label.proofs.texts.read_utf8.Reads as reads
-use Rattle.label.proofs.texts.read_utf8.Lts as lts
-use Rattle.label.proofs.texts.store.Reads as store-reads
-use Rattle.label.proofs.utf8.decode.Reads as decode-reads
 
 abbrev Inv-loop : tie.InvT-loop
 Inv-loop bytes out₀ at₀ n₀ out at n = length out ≡ length out₀
@@ -17,63 +13,48 @@ Inv-loop bytes out₀ at₀ n₀ out at n = length out ≡ length out₀
 abbrev μ-loop : tie.MeasureT-loop
 μ-loop bytes out₀ at₀ n₀ out at n = length bytes - at
 
--- src/texts.rt:30:5
 loop-holds : tie.Need-loop-holds Inv-loop μ-loop
 loop-holds c = search needs
 
--- src/texts.rt:31:22
 sub-decode : tie.Need-sub-decode Inv-loop μ-loop
 sub-decode c = search needs
 
--- src/texts.rt:31:22
 part-decode-start : tie.Need-part-decode-start Inv-loop μ-loop
 part-decode-start c = search needs
 
--- src/texts.rt:31:22
 part-decode-end : tie.Need-part-decode-end Inv-loop μ-loop
 part-decode-end c = search needs
 
--- src/texts.rt:31:15
 decode-requires : tie.Need-decode-requires Inv-loop μ-loop
 decode-requires c κs = search needs
 
--- src/texts.rt:32:31
 enum-known-value : tie.Need-enum-known-value Inv-loop μ-loop
 enum-known-value c = search needs
 
--- src/texts.rt:33:17
 store-requires : tie.Need-store-requires Inv-loop μ-loop
 store-requires c κs = search needs
 
--- src/texts.rt:34:17
 add-at : tie.Need-add-at Inv-loop μ-loop
 add-at c = omega (arith, read-inside (c .before .before .before .before .before .before .before .before .before .before .before .before .before .args .bytes .now) (c .before .before .before .before .before .before .before .before .before .before .loop .at) _ _ _ (c .before .before .before .before .before .before .before .before .before .loop-test .taken) (c .before .before .before .before .before .before .before .decode .ensures) (c .before .before .before .before .before .value .given .1))
 
--- src/texts.rt:30:5
 loop-less : tie.Need-loop-less Inv-loop μ-loop
 loop-less c = omega (arith, read-inside (c .before .before .before .before .before .before .before .before .before .before .before .before .before .args .bytes .now) (c .before .before .before .before .before .before .before .before .before .before .loop .at) _ _ _ (c .before .before .before .before .before .before .before .before .before .loop-test .taken) (c .before .before .before .before .before .before .before .decode .ensures) (c .before .before .before .before .before .value .given .1))
 
--- src/texts.rt:30:5
 loop-again : tie.Need-loop-again Inv-loop μ-loop
 loop-again c = search needs
 
--- src/texts.rt:37:17
 enum-told : tie.Need-enum-told Inv-loop μ-loop
 enum-told c = search needs
 
--- src/texts.rt:37:17
 same-length : tie.Need-same-length Inv-loop μ-loop
 same-length c = search needs
 
--- src/texts.rt:37:17
 returns : tie.Need-returns Inv-loop μ-loop
 returns c = search needs
 
--- src/texts.rt:27:1
 same-length-2 : tie.Need-same-length-2 Inv-loop μ-loop
 same-length-2 c = search needs
 
--- src/texts.rt:27:1
 returns-2 : tie.Need-returns-2 Inv-loop μ-loop
 returns-2 c = search needs
 

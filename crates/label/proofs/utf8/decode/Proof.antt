@@ -4,54 +4,37 @@ use Rattle.label.specs.Utf8.{decodeFrom}
 use borrow.Author.Needs.{needs}
 use Rattle.label.proofs.utf8.decode.Statement.{statement}
 use Rattle.label.proofs.utf8.decode.Tie as tie
-use Rattle.label.proofs.utf8.decode.Reads as reads
-use Rattle.label.proofs.utf8.decode.Lts as lts
-use Rattle.label.proofs.utf8.four.Reads as four-reads
-use Rattle.label.proofs.utf8.three.Reads as three-reads
-use Rattle.label.proofs.utf8.two.Reads as two-reads
-use Rattle.records.proofs.cells.cell8.Reads as cell8-reads
 
--- src/utf8.rt:98:16
 cell8-requires : tie.Need-cell8-requires
 cell8-requires c κs = search needs
 
--- src/utf8.rt:98:16
 cast-lead : tie.Need-cast-lead
 cast-lead c = search needs
 
--- src/utf8.rt:100:9
 returns : tie.Need-returns
 returns c = unfold decodeFrom in search (from-lead, choices) depth 10
 
--- src/utf8.rt:106:9
 returns-2 : tie.Need-returns-2
 returns-2 c = unfold decodeFrom in search (from-lead, choices) depth 10
 
--- src/utf8.rt:109:9
 two-requires : tie.Need-two-requires
 two-requires c κs = search needs
 
--- src/utf8.rt:109:9
 returns-3 : tie.Need-returns-3
 returns-3 c = unfold decodeFrom in search (from-lead, choices) depth 10
 
--- src/utf8.rt:112:9
 three-requires : tie.Need-three-requires
 three-requires c κs = search needs
 
--- src/utf8.rt:112:9
 returns-4 : tie.Need-returns-4
 returns-4 c = unfold decodeFrom in search (from-lead, choices) depth 10
 
--- src/utf8.rt:115:9
 four-requires : tie.Need-four-requires
 four-requires c κs = search needs
 
--- src/utf8.rt:115:9
 returns-5 : tie.Need-returns-5
 returns-5 c = unfold decodeFrom in search (from-lead, choices) depth 10
 
--- src/utf8.rt:95:1
 returns-6 : tie.Need-returns-6
 returns-6 c = unfold decodeFrom in search (from-lead, choices) depth 10
 

@@ -2,77 +2,55 @@ use Rattle.label.proofs.Decoding.{decodings}
 use borrow.Author.Needs.{needs}
 use Rattle.label.proofs.utf8.four.Statement.{statement}
 use Rattle.label.proofs.utf8.four.Tie as tie
-use Rattle.label.proofs.utf8.four.Reads as reads
-use Rattle.label.proofs.utf8.four.Lts as lts
-use Rattle.label.proofs.utf8.four_of.Reads as four-of-reads
-use Rattle.label.proofs.utf8.is_tail.Reads as is-tail-reads
-use Rattle.label.proofs.utf8.six.Reads as six-reads
 
--- src/utf8.rt:82:8
 is-tail-requires : tie.Need-is-tail-requires
 is-tail-requires c κs = search needs
 
--- src/utf8.rt:83:12
 is-tail-requires-2 : tie.Need-is-tail-requires-2
 is-tail-requires-2 c κs = search needs
 
--- src/utf8.rt:84:16
 is-tail-requires-3 : tie.Need-is-tail-requires-3
 is-tail-requires-3 c κs = search needs
 
--- src/utf8.rt:86:21
 mul-four-of : tie.Need-mul-four-of
 mul-four-of c = search needs
 
--- src/utf8.rt:86:41
 six-requires : tie.Need-six-requires
 six-requires c κs = search needs
 
--- src/utf8.rt:86:41
 mul-four-of-2 : tie.Need-mul-four-of-2
 mul-four-of-2 c = search needs
 
--- src/utf8.rt:86:21
 add-four-of : tie.Need-add-four-of
 add-four-of c = search needs
 
--- src/utf8.rt:86:63
 six-requires-2 : tie.Need-six-requires-2
 six-requires-2 c κs = search needs
 
--- src/utf8.rt:86:63
 mul-four-of-3 : tie.Need-mul-four-of-3
 mul-four-of-3 c = search needs
 
--- src/utf8.rt:86:21
 add-four-of-2 : tie.Need-add-four-of-2
 add-four-of-2 c = search needs
 
--- src/utf8.rt:86:83
 six-requires-3 : tie.Need-six-requires-3
 six-requires-3 c κs = search needs
 
--- src/utf8.rt:86:21
 add-four-of-3 : tie.Need-add-four-of-3
 add-four-of-3 c = search needs
 
--- src/utf8.rt:85:17
 four-of-requires : tie.Need-four-of-requires
 four-of-requires c κs = search needs
 
--- src/utf8.rt:85:17
 returns : tie.Need-returns
 returns c = search decodings
 
--- src/utf8.rt:79:1
 returns-2 : tie.Need-returns-2
 returns-2 c = search decodings
 
--- src/utf8.rt:79:1
 returns-3 : tie.Need-returns-3
 returns-3 c = search decodings
 
--- src/utf8.rt:79:1
 returns-4 : tie.Need-returns-4
 returns-4 c = search decodings
 

@@ -3,18 +3,13 @@ use Rattle.label.specs.Utf8.{fourOf}
 use borrow.Author.Needs.{needs}
 use Rattle.label.proofs.utf8.four_of.Statement.{statement}
 use Rattle.label.proofs.utf8.four_of.Tie as tie
-use Rattle.label.proofs.utf8.four_of.Reads as reads
-use Rattle.label.proofs.utf8.four_of.Lts as lts
 
--- src/utf8.rt:71:9
 returns : tie.Need-returns
 returns c = unfold fourOf in search choices depth 8
 
--- src/utf8.rt:74:9
 returns-2 : tie.Need-returns-2
 returns-2 c = unfold fourOf in search choices depth 8
 
--- src/utf8.rt:67:1
 returns-3 : tie.Need-returns-3
 returns-3 c = unfold fourOf in search choices depth 8
 

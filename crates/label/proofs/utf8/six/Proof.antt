@@ -3,19 +3,13 @@ use native.Mathlib.Omega.{arith}
 use borrow.Author.Needs.{needs}
 use Rattle.label.proofs.utf8.six.Statement.{statement}
 use Rattle.label.proofs.utf8.six.Tie as tie
-use Rattle.label.proofs.utf8.six.Reads as reads
-use Rattle.label.proofs.utf8.six.Lts as lts
-use Rattle.records.proofs.cells.cell8.Reads as cell8-reads
 
--- src/utf8.rt:24:6
 cell8-requires : tie.Need-cell8-requires
 cell8-requires c κs = search needs
 
--- src/utf8.rt:24:5
 cast-result : tie.Need-cast-result
 cast-result c = search needs
 
--- src/utf8.rt:21:1
 returns : tie.Need-returns
 returns c = unfold six in (rw (c .cell8 .ensures), omega arith)
 

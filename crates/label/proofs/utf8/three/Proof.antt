@@ -2,57 +2,40 @@ use Rattle.label.proofs.Decoding.{decodings}
 use borrow.Author.Needs.{needs}
 use Rattle.label.proofs.utf8.three.Statement.{statement}
 use Rattle.label.proofs.utf8.three.Tie as tie
-use Rattle.label.proofs.utf8.three.Reads as reads
-use Rattle.label.proofs.utf8.three.Lts as lts
-use Rattle.label.proofs.utf8.is_tail.Reads as is-tail-reads
-use Rattle.label.proofs.utf8.six.Reads as six-reads
-use Rattle.label.proofs.utf8.three_of.Reads as three-of-reads
 
--- src/utf8.rt:58:8
 is-tail-requires : tie.Need-is-tail-requires
 is-tail-requires c κs = search needs
 
--- src/utf8.rt:59:12
 is-tail-requires-2 : tie.Need-is-tail-requires-2
 is-tail-requires-2 c κs = search needs
 
--- src/utf8.rt:60:29
 mul-three-of : tie.Need-mul-three-of
 mul-three-of c = search needs
 
--- src/utf8.rt:60:48
 six-requires : tie.Need-six-requires
 six-requires c κs = search needs
 
--- src/utf8.rt:60:48
 mul-three-of-2 : tie.Need-mul-three-of-2
 mul-three-of-2 c = search needs
 
--- src/utf8.rt:60:29
 add-three-of : tie.Need-add-three-of
 add-three-of c = search needs
 
--- src/utf8.rt:60:68
 six-requires-2 : tie.Need-six-requires-2
 six-requires-2 c κs = search needs
 
--- src/utf8.rt:60:29
 add-three-of-2 : tie.Need-add-three-of-2
 add-three-of-2 c = search needs
 
--- src/utf8.rt:60:13
 three-of-requires : tie.Need-three-of-requires
 three-of-requires c κs = search needs
 
--- src/utf8.rt:60:13
 returns : tie.Need-returns
 returns c = search decodings
 
--- src/utf8.rt:55:1
 returns-2 : tie.Need-returns-2
 returns-2 c = search decodings
 
--- src/utf8.rt:55:1
 returns-3 : tie.Need-returns-3
 returns-3 c = search decodings
 

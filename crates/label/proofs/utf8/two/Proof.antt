@@ -2,32 +2,22 @@ use Rattle.label.proofs.Decoding.{decodings}
 use borrow.Author.Needs.{needs}
 use Rattle.label.proofs.utf8.two.Statement.{statement}
 use Rattle.label.proofs.utf8.two.Tie as tie
-use Rattle.label.proofs.utf8.two.Reads as reads
-use Rattle.label.proofs.utf8.two.Lts as lts
-use Rattle.label.proofs.utf8.is_tail.Reads as is-tail-reads
-use Rattle.label.proofs.utf8.six.Reads as six-reads
 
--- src/utf8.rt:30:8
 is-tail-requires : tie.Need-is-tail-requires
 is-tail-requires c κs = search needs
 
--- src/utf8.rt:32:20
 mul-t5 : tie.Need-mul-t5
 mul-t5 c = search needs
 
--- src/utf8.rt:32:37
 six-requires : tie.Need-six-requires
 six-requires c κs = search needs
 
--- src/utf8.rt:32:20
 add-t7 : tie.Need-add-t7
 add-t7 c = search needs
 
--- src/utf8.rt:31:9
 returns : tie.Need-returns
 returns c = search decodings
 
--- src/utf8.rt:27:1
 returns-2 : tie.Need-returns-2
 returns-2 c = search decodings
 
