@@ -1,0 +1,35 @@
+//! Proved text segmentation: the three cluster parsers and the word machine of swash 0.2.10, over a static library that is proved in
+//! Rattle. Every call ends and stays inside its columns, for every input, and bad input gets a [`Refusal`], never a default.
+//!
+//! [`Text`] builds the columns of a text, [`Columns`] lends columns that are there already. [`Columns::clusters`] and [`Columns::words`]
+//! iterate. A call takes stack as include/ezherbut.h says: up to 1.7 MiB for a text of 4,096 records without tokens.
+//!
+//! ```
+//! use ezherbut::codes::{category, cluster_break, myanmar_class, use_class, word_break};
+//! use ezherbut::{Marks, Mode, Parser, Record, Text};
+//!
+//! let mut text = Text::new();
+//! text.push(Record {
+//!     scalar: 0x110000,
+//!     cluster_break: cluster_break::XX,
+//!     use_class: use_class::REST,
+//!     myanmar_class: myanmar_class::REST,
+//!     category: category::OTHER,
+//!     word: word_break::OTHER,
+//!     marks: Marks::NONE,
+//! });
+//! let refusal = text.clusters(Parser::Simple, Mode::Whole).next().unwrap().unwrap_err();
+//! assert_eq!(refusal.to_string(), "refusal 3: a scalar is above 10FFFF or in D800 to DFFF (record 0)");
+//! ```
+
+mod clusters;
+pub mod codes;
+mod refusal;
+mod sys;
+mod text;
+mod words;
+
+pub use clusters::{Character, Cluster, Clusters, Counts, Emoji, Mode, Parser, Run, Space, Step};
+pub use refusal::{Refusal, Side};
+pub use text::{Columns, Marks, Part, Record, Text};
+pub use words::{word_check, word_run, WordState, Words};

@@ -1,0 +1,199 @@
+/*
+ * Ezherbut from C: proved text segmentation. Link target/native/libexports.a (tools/archive exports writes it).
+ *
+ * Columns. Every column is a pointer and its count of elements. A pointer is not null, also where the count is 0. A column that is
+ * written overlaps no other column of the call. Nothing is kept between two calls.
+ *
+ * Stack. A text of more than 256 tokens takes 96 KiB for its tokens. In the complex parsers each record marked decompose that has no
+ * part takes a call of its own until the next token: 4,096 of them in a row were measured to need between 1.6 and 1.7 MiB on Arm.
+ *
+ * A text is 18 columns, in this order in every call. Fourteen with a cell for each record: scalar, cluster break, USE class, Myanmar
+ * class, category, word class, then the marks (0 no, 1 yes) emoji for the simple, the Myanmar and the complex parser, pictograph,
+ * variation selector, decompose, then first part and count of parts. Four with a cell for each part: scalar, cluster break, USE class,
+ * category. The codes are in ezherbut_codes.h. A text has at most 4,096 records and 4,096 parts.
+ *
+ * Results. Each function returns a refusal, 0 where there is none, and writes numbers to the results column, which comes last: the
+ * refusal, its side and its index in the first three cells, then what the function says below. Cells past those keep their content.
+ *
+ * Refusals, in testing order. With any of them no lent column changes but the results column.
+ *
+ *   9  the results column has fewer cells than the function writes: the results column is left as it was too
+ *   4  side neither: the parser or the mode is not of its list
+ *   1  a column of the text is longer than 4,096
+ *   2  columns of one set differ in length
+ *   3  a scalar above 10FFFF or in D800 to DFFF: side and index say where
+ *   4  a code or a mark outside its list: side and index say where
+ *   5  a count of parts above 3, or first part plus count above the number of parts: index says where
+ *   6  complex parsers: U+034F with a USE class that they look for in a tail (CMBlw, SUB, H, FM, FAbv, FBlw, FPst, and those that
+ *      begin with M, VA, VB, VP or VM): side and index say where
+ *   7  complex parser with Khmer: an unmarked U+17BE, 17BF, 17C0, 17C4 or 17C5 whose parts are not exactly one, U+17C1
+ *   8  the place is neither a token nor the end; for words, a state that is none
+ *   9  a column for the answer is too short
+ *
+ * 3, 4 and 6 are looked for in the parts by rising index, then 3, 4, 5 and 6 in the records by rising index.
+ */
+#ifndef EZHERBUT_H
+#define EZHERBUT_H
+
+#include <stddef.h>
+#include <stdint.h>
+
+#include "ezherbut_codes.h"
+
+#ifdef __cplusplus
+extern "C" {
+#endif
+
+/* Parsers. */
+enum {
+    EZH_SIMPLE = 0,
+    EZH_MYANMAR = 1,
+    EZH_COMPLEX = 2,
+    /* complex, for a text in the Khmer script */
+    EZH_KHMER = 3,
+};
+
+/* Modes: the answers of swash 0.2.10, or the same grammar without a repeated character. */
+enum {
+    EZH_CRATE = 0,
+    EZH_WHOLE = 1,
+};
+
+/* What the index of a refusal counts. */
+enum {
+    EZH_SIDE_NEITHER = 0,
+    EZH_SIDE_RECORD = 1,
+    EZH_SIDE_PART = 2,
+};
+
+/* The first cells of every results column. */
+enum {
+    EZH_REFUSAL = 0,
+    EZH_SIDE = 1,
+    EZH_INDEX = 2,
+    /* how many cells a check and a word run write */
+    EZH_CHECK_CELLS = 3,
+};
+
+/* The further cells of ezh_run's results. */
+enum {
+    EZH_RUN_CLUSTERS = 3,
+    EZH_RUN_CHARACTERS = 4,
+    EZH_RUN_CELLS = 5,
+};
+
+/* The further cells of ezh_step's results. */
+enum {
+    /* 0 a cluster, 1 the end, 2 a refusal */
+    EZH_STEP_WHAT = 3,
+    /* the next place; with a refusal the place that was given */
+    EZH_STEP_PLACE = 4,
+    /* how many tokens the call passed, the distance between the two places */
+    EZH_STEP_PASSED = 5,
+    /* how many characters the cluster has, at most EZH_CLUSTER_CELLS */
+    EZH_STEP_CHARACTERS = 6,
+    /* 0 none, 1 default, 2 text, 3 colour */
+    EZH_STEP_EMOJI = 7,
+    /* 0 none, 1 newline, 2 from the scalar in the next cell */
+    EZH_STEP_SPACE = 8,
+    EZH_STEP_SPACE_SCALAR = 9,
+    EZH_STEP_BROKEN = 10,
+    EZH_STEP_NORMALISE = 11,
+    EZH_STEP_CELLS = 12,
+};
+
+/* How many cells each of ezh_step's cluster columns needs. */
+enum { EZH_CLUSTER_CELLS = 32 };
+
+/* The further cells of ezh_step_word's results: the state after the record, and whether a word begins at it. */
+enum {
+    EZH_WORD_FIRST = 3,
+    EZH_WORD_PREVIOUS = 4,
+    EZH_WORD_PREVENT = 5,
+    EZH_WORD_COUNT = 6,
+    EZH_WORD_ANSWER = 7,
+    EZH_WORD_CELLS = 8,
+};
+
+/* The parameters of a text, and a text of columns that have one length, written out as these arguments by EZH_TEXT. */
+#define EZH_TEXT_PARAMETERS                                                                                                        \
+    const uint32_t *scalars, size_t scalars_count, const uint8_t *breaks, size_t breaks_count, const uint8_t *uses,                \
+        size_t uses_count, const uint8_t *myanmars, size_t myanmars_count, const uint8_t *categories, size_t categories_count,     \
+        const uint8_t *words, size_t words_count, const uint8_t *semojis, size_t semojis_count, const uint8_t *memojis,            \
+        size_t memojis_count, const uint8_t *cemojis, size_t cemojis_count, const uint8_t *pictographs, size_t pictographs_count,  \
+        const uint8_t *selectors, size_t selectors_count, const uint8_t *decomposes, size_t decomposes_count,                      \
+        const uint16_t *firsts, size_t firsts_count, const uint8_t *counts, size_t counts_count, const uint32_t *pscalars,         \
+        size_t pscalars_count, const uint8_t *pbreaks, size_t pbreaks_count, const uint8_t *puses, size_t puses_count,             \
+        const uint8_t *pcategories, size_t pcategories_count
+
+typedef struct {
+    size_t records;
+    const uint32_t *scalars;
+    const uint8_t *breaks, *uses, *myanmars, *categories, *words;
+    const uint8_t *semojis, *memojis, *cemojis, *pictographs, *selectors, *decomposes;
+    const uint16_t *firsts;
+    const uint8_t *counts;
+    size_t parts;
+    const uint32_t *pscalars;
+    const uint8_t *pbreaks, *puses, *pcategories;
+} ezh_text;
+
+#define EZH_TEXT(t)                                                                                                                \
+    (t).scalars, (t).records, (t).breaks, (t).records, (t).uses, (t).records, (t).myanmars, (t).records, (t).categories,           \
+        (t).records, (t).words, (t).records, (t).semojis, (t).records, (t).memojis, (t).records, (t).cemojis, (t).records,         \
+        (t).pictographs, (t).records, (t).selectors, (t).records, (t).decomposes, (t).records, (t).firsts, (t).records,            \
+        (t).counts, (t).records, (t).pscalars, (t).parts, (t).pbreaks, (t).parts, (t).puses, (t).parts, (t).pcategories, (t).parts
+
+/* The check of a text for a parser. Results: EZH_CHECK_CELLS. Refusals: 9 (results), 4 (parser), 1 to 7. */
+uint64_t ezh_check(uint64_t parser, EZH_TEXT_PARAMETERS, uint64_t *results, size_t results_count);
+
+/*
+ * A full run: for each pushed character its scalar, its shape class and the number of its cluster, from 0, in the first cells of the
+ * three columns. Results: EZH_RUN_CELLS; clusters and characters are 0 with a refusal.
+ * Refusals: 9 (results), 4 (parser, mode), 1 to 7, and 9 where the shortest of the three columns has fewer than twice as many cells as
+ * the text has tokens. Simple and Myanmar have a token for each record, the complex parsers at most three: six cells for each record
+ * are always enough.
+ */
+uint64_t ezh_run(uint64_t parser, uint64_t mode, EZH_TEXT_PARAMETERS, uint32_t *out_scalars, size_t out_scalars_count,
+                 uint8_t *out_classes, size_t out_classes_count, uint16_t *out_clusters, size_t out_clusters_count,
+                 uint64_t *results, size_t results_count);
+
+/*
+ * One call from a place: 0 is the start, and each call hands back the next place. The cluster's characters stand in the first cells of
+ * the four columns: scalar, shape class, record index, and how many tokens are noted directly after the character (variation
+ * selectors of an emoji, which are not pushed). Results: EZH_STEP_CELLS. At the end: the end, no character, passed 0.
+ * Refusals: 9 (results), 4 (parser, mode), 1 to 8, and 9 where the shortest of the four columns has fewer than EZH_CLUSTER_CELLS
+ * cells. With a refusal the place is the one given, passed is 0, and there is no character.
+ * Every call judges the whole text anew; a text that is segmented whole is better run by ezh_run.
+ */
+uint64_t ezh_step(uint64_t parser, uint64_t mode, size_t place, EZH_TEXT_PARAMETERS, uint32_t *cluster_scalars,
+                  size_t cluster_scalars_count, uint8_t *cluster_classes, size_t cluster_classes_count, uint16_t *cluster_records,
+                  size_t cluster_records_count, uint16_t *cluster_noted, size_t cluster_noted_count, uint64_t *results,
+                  size_t results_count);
+
+/* The check of the two columns of a word run: word class and pictograph. Results: EZH_CHECK_CELLS. Refusals: 9 (results), 1, 2, 4. */
+uint64_t ezh_check_words(const uint8_t *words, size_t words_count, const uint8_t *pictographs, size_t pictographs_count,
+                         uint64_t *results, size_t results_count);
+
+/*
+ * A word run: 1 for each record that a word boundary stands before, else 0. Results: EZH_CHECK_CELLS.
+ * Refusals: 9 (results), 1, 2, 4, and 9 where out has fewer cells than there are records.
+ */
+uint64_t ezh_run_words(const uint8_t *words, size_t words_count, const uint8_t *pictographs, size_t pictographs_count, uint8_t *out,
+                       size_t out_count, uint64_t *results, size_t results_count);
+
+/*
+ * A word step: a state (first and prevent 0 or 1, the class before, a count of 0 to 2), one record's word class and pictograph mark,
+ * and the word classes of the records after it, of which only the first is looked at; none where that column is empty. The state
+ * before the first record is 1, EZH_WORD_OTHER, 0, 0. Results: EZH_WORD_CELLS.
+ * Refusals: 9 (results), 4 (record, index 0) for a class or mark outside its list, 8 for a state that is none. With a refusal the
+ * state is the one given and the answer 0.
+ */
+uint64_t ezh_step_word(uint64_t first, uint64_t previous, uint64_t prevent, uint64_t count, uint64_t word, uint64_t pictograph,
+                       const uint8_t *rest, size_t rest_count, uint64_t *results, size_t results_count);
+
+#ifdef __cplusplus
+}
+#endif
+
+#endif
