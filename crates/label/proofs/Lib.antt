@@ -1,3 +1,4 @@
 pub mod Columns
 pub mod Decoding
+pub mod Encoding
 pub mod Numbers

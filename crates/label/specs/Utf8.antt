@@ -1,7 +1,7 @@
 -- UTF-8: the scalar that some bytes begin with. A byte past the end is 0, which goes on with no character.
 use Prim.Native.Nat.{ℕ, _+_, _*_, _/_, _%_}
 use mathlib.Core.Bool.{Bool, cond, _&&_}
-use mathlib.Core.List.{List}
+use mathlib.Core.List.{List, [], _∷_}
 use lib.Dec.{eqb, ltb}
 use lib.ListN.{getD}
 use Rattle.label.specs.declared.utf8.Decoded.{Decoded}
@@ -43,3 +43,11 @@ decodeFrom s lead =
 
 unfoldable pub decodeOf : List ℕ → Decoded
 decodeOf s = decodeFrom s (getD s 0 0)
+
+-- the bytes that UTF-8 writes a scalar with
+unfoldable pub encodeOf : ℕ → List ℕ
+encodeOf x =
+    cond (ltb x 0x80) (x ∷ [])
+    (cond (ltb x 0x800) ((192 + x / 64) ∷ (128 + x % 64) ∷ [])
+    (cond (ltb x 0x10000) ((224 + x / 4096) ∷ (128 + x / 64 % 64) ∷ (128 + x % 64) ∷ [])
+    ((240 + x / 262144) ∷ (128 + x / 4096 % 64) ∷ (128 + x / 64 % 64) ∷ (128 + x % 64) ∷ [])))
