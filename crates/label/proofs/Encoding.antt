@@ -18,6 +18,18 @@ use Rattle.label.specs.Utf8.{tail, six, two, three, threeOf, four, fourO
 goes-on : (y : ℕ) → y < 64 → eqb ((128 + y) / 64) 2 ≡ true
 goes-on y h = eq-eqb ((128 + y) / 64) 2 (omega arith)
 
+-- its six bits
+kept : (y : ℕ) → y < 64 → (128 + y) % 64 ≡ y
+kept y h = omega arith
+
+-- four times six bits
+joined : (x p q r a b d : ℕ) → x ≡ p * 64 + a → p ≡ q * 64 + b → q ≡ r * 64 + d → r * 262144 + d * 4096 + b * 64 + a ≡ x
+joined x p q r a b d e f g = omega arith
+
+parts : (x : ℕ) → x / 262144 * 262144 + x / 4096 % 64 * 4096 + x / 64 % 64 * 64 + x % 64 ≡ x
+parts x =
+    joined x (x / 64) (x / 4096) (x / 262144) (x % 64) (x / 64 % 64) (x / 4096 % 64) (omega arith) (omega arith) (omega arith)
+
 module _ (x : ℕ) (rest : List ℕ) where
   one : x < 0x80 → decodeOf (x ∷ rest) ≡ Scalar x 1
   unfolding decodeOf decodeFrom
@@ -46,9 +58,9 @@ module _ (x : ℕ) (rest : List ℕ) where
       let v : (224 + x / 4096) % 16 * 4096 + (128 + x / 64 % 64) % 64 * 64 + (128 + x % 64) % 64 ≡ x = omega arith in
       rw (a, b, d, e, t, u, v, le-ltb x 0x800 l)
       (⊎-elim
-        (λ k. rw (lt-ltb x 0xD800 k))
-        (λ k. let f : ltb x 0xD800 ≡ false = le-ltb x 0xD800 (omega arith) in rw (f, le-ltb x 0xE000 k))
-        s)
+      (λ k. rw (lt-ltb x 0xD800 k))
+      (λ k. let f : ltb x 0xD800 ≡ false = le-ltb x 0xD800 (omega arith) in rw (f, le-ltb x 0xE000 k))
+      s)
 
   four-bytes : 0x10000 ≤ x → x < 0x110000
       → decodeOf ((240 + x / 262144) ∷ (128 + x / 4096 % 64) ∷ (128 + x / 64 % 64) ∷ (128 + x % 64) ∷ rest) ≡ Scalar x 4
@@ -62,8 +74,11 @@ module _ (x : ℕ) (rest : List ℕ) where
       let t : eqb ((128 + x / 4096 % 64) / 64) 2 ≡ true = goes-on (x / 4096 % 64) (omega arith) in
       let u : eqb ((128 + x / 64 % 64) / 64) 2 ≡ true = goes-on (x / 64 % 64) (omega arith) in
       let w : eqb ((128 + x % 64) / 64) 2 ≡ true = goes-on (x % 64) (omega arith) in
-      let v : (240 + x / 262144) % 8 * 262144 + (128 + x / 4096 % 64) % 64 * 4096 + (128 + x / 64 % 64) % 64 * 64 + (128 + x % 64) % 64 ≡ x = omega arith in
-      rw (a, b, d, e, f, t, u, w, v, le-ltb x 0x10000 l, lt-ltb x 0x110000 h)
+      let o : (240 + x / 262144) % 8 ≡ x / 262144 = omega arith in
+      let k : (128 + x / 4096 % 64) % 64 ≡ x / 4096 % 64 = kept (x / 4096 % 64) (omega arith) in
+      let m : (128 + x / 64 % 64) % 64 ≡ x / 64 % 64 = kept (x / 64 % 64) (omega arith) in
+      let n : (128 + x % 64) % 64 ≡ x % 64 = kept (x % 64) (omega arith) in
+      rw (a, b, d, e, f, t, u, w, o, k, m, n, parts x, le-ltb x 0x10000 l, lt-ltb x 0x110000 h)
 
   pub decodes : x < 0x110000 → (x < 0xD800) ⊎ (0xE000 ≤ x) → decodeOf (encodeOf x ++ rest) ≡ Scalar x (length (encodeOf x))
   unfolding encodeOf
@@ -71,7 +86,7 @@ module _ (x : ℕ) (rest : List ℕ) where
       by-test (ltb x 0x80)
       (λ a. rw a (one (ltb-true _ _ a)))
       (λ a. by-test (ltb x 0x800)
-        (λ b. rw (a, b) (two-bytes (ltb-false _ _ a) (ltb-true _ _ b)))
-        (λ b. by-test (ltb x 0x10000)
-          (λ d. rw (a, b, d) (three-bytes (ltb-false _ _ b) (ltb-true _ _ d) s))
-          (λ d. rw (a, b, d) (four-bytes (ltb-false _ _ d) h))))
+      (λ b. rw (a, b) (two-bytes (ltb-false _ _ a) (ltb-true _ _ b)))
+      (λ b. by-test (ltb x 0x10000)
+      (λ d. rw (a, b, d) (three-bytes (ltb-false _ _ b) (ltb-true _ _ d) s))
+      (λ d. rw (a, b, d) (four-bytes (ltb-false _ _ d) h))))
