@@ -1,9 +1,11 @@
 -- UTF-8: the scalar that some bytes begin with. A byte past the end is 0, which goes on with no character.
-use Prim.Native.Nat.{ℕ, _+_, _*_, _/_, _%_}
+use Prim.Native.Nat.{ℕ, zero, suc, _+_, _-_, _*_, _/_, _%_, min}
 use mathlib.Core.Bool.{Bool, cond, _&&_}
 use mathlib.Core.List.{List, [], _∷_}
 use lib.Dec.{eqb, ltb}
-use lib.ListN.{getD}
+use lib.ListN.{length, getD}
+use Rattle.label.specs.declared.texts.Taken.{Taken}
+use Rattle.label.specs.declared.texts.Taken.the-variants.{Scalars, NotUtf8}
 use Rattle.label.specs.declared.utf8.Decoded.{Decoded}
 use Rattle.label.specs.declared.utf8.Decoded.the-variants.{Scalar, Bad}
 
@@ -43,6 +45,31 @@ decodeFrom s lead =
 
 unfoldable pub decodeOf : List ℕ → Decoded
 decodeOf s = decodeFrom s (getD s 0 0)
+
+-- what follows a character: the rest, its first bytes passed over
+abbrev pub onward : Decoded → (ℕ → List ℕ) → List ℕ
+onward (Scalar x n) rest = x ∷ rest (n - 1)
+onward Bad rest = []
+
+-- the scalars that bytes write, up to the first byte that begins none; k bytes are passed over
+unfoldable pub scalarsFrom : ℕ → List ℕ → List ℕ
+scalarsFrom k [] = []
+scalarsFrom (suc k) (b ∷ s) = scalarsFrom k s
+scalarsFrom zero (b ∷ s) = onward (decodeOf (b ∷ s)) (λ n. scalarsFrom n s)
+
+abbrev pub passed : Decoded → (ℕ → ℕ) → ℕ
+passed (Scalar x n) rest = suc (rest (n - 1))
+passed Bad rest = 0
+
+-- how many bytes stand before that byte
+unfoldable pub stopFrom : ℕ → List ℕ → ℕ
+stopFrom k [] = 0
+stopFrom (suc k) (b ∷ s) = suc (stopFrom k s)
+stopFrom zero (b ∷ s) = passed (decodeOf (b ∷ s)) (λ n. stopFrom n s)
+
+-- all are read, as many as there is room for; or where it stopped
+unfoldable pub readOf : List ℕ → ℕ → Taken
+readOf s room = cond (ltb (stopFrom 0 s) (length s)) (NotUtf8 (stopFrom 0 s)) (Scalars (min (length (scalarsFrom 0 s)) room))
 
 -- the bytes that UTF-8 writes a scalar with
 unfoldable pub encodeOf : ℕ → List ℕ

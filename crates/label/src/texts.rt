@@ -7,6 +7,12 @@ use cases::next_of;
 use cases::part_at;
 use cases::read_number;
 use records::cells::cell8;
+ghost use mathlib.Core.Path.{_≡_};
+ghost use mathlib.Core.Bool.{cond};
+ghost use Prim.Native.Nat.{_+_, min};
+ghost use lib.Dec.{ltb};
+ghost use lib.ListN.{length, take, set};
+ghost use Rattle.label.specs.Utf8.{scalarsFrom, readOf};
 
 // How many scalars were read, or where none was: the byte or the number, counted from 0.
 pub enum Taken {
@@ -16,7 +22,10 @@ pub enum Taken {
 }
 
 // A cell past the column's end is dropped: the column is longer than an accepted text.
-fn store(out: &mut [u32], n: usize, x: u32) -> usize {
+fn store(out: &mut [u32], n: usize, x: u32) -> usize
+    ensures { λ r. ⌜ r ≡ cond (ltb n (length (now (out .entry)))) (n + 1) n ⌝ }
+    ensures { λ _. ⌜ now (out .exit) ≡ set (now (out .entry)) n x ⌝ }
+{
     if n < out.len() {
         out[n] = x;
         return n + 1;
@@ -24,7 +33,10 @@ fn store(out: &mut [u32], n: usize, x: u32) -> usize {
     n
 }
 
-fn read_utf8(bytes: &[u8], out: &mut [u32]) -> Taken {
+fn read_utf8(bytes: &[u8], out: &mut [u32]) -> Taken
+    ensures { λ r. ⌜ r ≡ readOf (now (bytes .entry)) (length (now (out .entry))) ⌝ }
+    ensures { λ _. ⌜ take (min (length (scalarsFrom 0 (now (bytes .entry)))) (length (now (out .entry)))) (now (out .exit)) ≡ take (min (length (scalarsFrom 0 (now (bytes .entry)))) (length (now (out .entry)))) (scalarsFrom 0 (now (bytes .entry))) ⌝ }
+{
     let mut at: usize = 0;
     let mut n: usize = 0;
     while at < bytes.len() {
