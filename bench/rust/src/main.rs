@@ -9,7 +9,7 @@
 mod sample;
 mod text;
 
-use ezherbut::{Columns, Mode, Parser};
+use ezherbut::{Mode, Parser};
 use sample::Sample;
 use std::hint::black_box;
 use std::time::Instant;
@@ -27,7 +27,11 @@ struct Out {
 
 impl Out {
     fn new(size: usize) -> Self {
-        Self { scalars: vec![0; 6 * size], classes: vec![0; 6 * size], numbers: vec![0; 6 * size] }
+        Self {
+            scalars: vec![0; 6 * size],
+            classes: vec![0; 6 * size],
+            numbers: vec![0; 6 * size],
+        }
     }
 
     fn written(&self, n: usize) -> (&[u32], &[u8], &[u16]) {
@@ -69,15 +73,16 @@ fn rust_run(sample: &Sample, out: &mut Out) -> usize {
 
 /// All calls from the start to the end; every one judges the whole text.
 fn our_steps(sample: &Sample, _: &mut Out) -> usize {
-    let (columns, mut place, mut pushed) = (sample.text.columns(), 0, 0);
-    while let Some(cluster) = {
+    let columns = sample.text.columns();
+    let (mut place, mut pushed) = (0, 0);
+    loop {
         let step = columns.step(sample.parser, Mode::Crate, place).expect("an accepted text");
-        place = step.place;
-        step.cluster
-    } {
+        let Some(cluster) = step.cluster else {
+            return pushed;
+        };
         pushed += black_box(cluster).characters.len();
+        place = step.place;
     }
-    pushed
 }
 
 fn rust_steps(sample: &Sample, _: &mut Out) -> usize {
@@ -124,28 +129,44 @@ fn least(times: &[f64]) -> (f64, f64) {
 fn compare(name: &str, what: &str, sample: &Sample, ours: Side, rust: Side, rounds: usize) {
     let size = sample.text.len();
     let mut out = Out::new(size);
-    let repetitions = if what == "steps" { (40_000_000 / (size * size)).clamp(1, 20_000) } else { 400_000 / size };
+    let repetitions = if what == "steps" {
+        (40_000_000 / (size * size)).clamp(1, 20_000)
+    } else {
+        400_000 / size
+    };
     let mut times = (Vec::new(), Vec::new());
     for _ in 0..rounds {
         times.0.push(time(ours, sample, &mut out, repetitions));
         times.1.push(time(rust, sample, &mut out, repetitions));
     }
     let ((our, our_spread), (their, their_spread)) = (least(&times.0), least(&times.1));
-    println!("{name} {size} {what} ours {our:.1} x{our_spread:.2} rust {their:.1} x{their_spread:.2} ratio {:.2}", our / their);
+    println!(
+        "{name} {size} {what} ours {our:.1} x{our_spread:.2} rust {their:.1} x{their_spread:.2} ratio {:.2}",
+        our / their
+    );
 }
 
 /// A time is only worth something where the answers are equal.
 fn agree(sample: &Sample) {
     let (mut one, mut two) = (Out::new(sample.text.len()), Out::new(sample.text.len()));
     let n = our_run(sample, &mut one);
-    assert!(n == rust_run(sample, &mut two) && one.written(n) == two.written(n), "the runs differ");
+    assert!(
+        n == rust_run(sample, &mut two) && one.written(n) == two.written(n),
+        "the runs differ"
+    );
     assert!(our_steps(sample, &mut one) == rust_steps(sample, &mut two), "the calls differ");
     let n = our_words(sample, &mut one);
-    assert!(n == rust_words(sample, &mut two) && one.written(n).1 == two.written(n).1, "the words differ");
+    assert!(
+        n == rust_words(sample, &mut two) && one.written(n).1 == two.written(n).1,
+        "the words differ"
+    );
 }
 
-const SIDES: [(&str, Side, Side); 3] =
-    [("run", our_run, rust_run), ("steps", our_steps, rust_steps), ("words", our_words, rust_words)];
+const SIDES: [(&str, Side, Side); 3] = [
+    ("run", our_run, rust_run),
+    ("steps", our_steps, rust_steps),
+    ("words", our_words, rust_words),
+];
 
 fn sample(folder: &str, name: &str, size: usize) -> Sample {
     Sample::of(&std::fs::read_to_string(format!("{folder}/{name}.txt")).expect("a text"), size)

@@ -25,8 +25,12 @@ fn mark(field: &str) -> bool {
     field == "1"
 }
 
-fn fields<'a>(items: &'a str) -> Vec<Vec<&'a str>> {
-    items.split(' ').filter(|item| !item.is_empty()).map(|item| item.split(',').collect()).collect()
+fn fields(items: &str) -> Vec<Vec<&str>> {
+    items
+        .split(' ')
+        .filter(|item| !item.is_empty())
+        .map(|item| item.split(',').collect())
+        .collect()
 }
 
 fn parser(kind: &str, script: &str) -> Parser {
@@ -39,7 +43,12 @@ fn parser(kind: &str, script: &str) -> Parser {
 }
 
 fn part(item: &[&str]) -> Part {
-    Part { scalar: scalar(item[0]), cluster_break: number(item[1]), use_class: number(item[2]), category: number(item[3]) }
+    Part {
+        scalar: scalar(item[0]),
+        cluster_break: number(item[1]),
+        use_class: number(item[2]),
+        category: number(item[3]),
+    }
 }
 
 fn record(item: &[&str]) -> Record {
@@ -84,7 +93,11 @@ fn token(record: &Record, index: usize) -> Token {
         selector: record.marks.variation_selector,
         decompose: record.marks.decompose,
     };
-    Token { ch: character(record.scalar), info, data: index as u32 }
+    Token {
+        ch: character(record.scalar),
+        info,
+        data: index as u32,
+    }
 }
 
 /// The parts of the marked records by scalar, and every part's properties, each once.
@@ -100,7 +113,10 @@ fn lent(records: &[(Record, Vec<Part>)]) -> Lent {
         for part in own {
             let ch = character(part.scalar);
             if parts.iter().all(|one| one.ch != ch) {
-                parts.push(RustPart { ch, properties: properties(part.cluster_break, part.use_class, part.category) });
+                parts.push(RustPart {
+                    ch,
+                    properties: properties(part.cluster_break, part.use_class, part.category),
+                });
             }
         }
     }
@@ -130,7 +146,10 @@ impl Sample {
             sample.text.push_with_parts(*record, own);
             sample.tokens.push(token(record, index));
             let class = WordBreak::from_code(record.word).unwrap();
-            sample.words.push(WordRecord { class, pictograph: record.marks.pictograph });
+            sample.words.push(WordRecord {
+                class,
+                pictograph: record.marks.pictograph,
+            });
         }
         sample
     }

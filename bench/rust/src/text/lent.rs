@@ -16,7 +16,11 @@ pub struct Properties {
 
 impl Properties {
     pub fn of_word(word: WordBreak, pictograph: bool) -> Self {
-        Self { word, pictograph, ..Self::default() }
+        Self {
+            word,
+            pictograph,
+            ..Self::default()
+        }
     }
 
     pub fn use_class(&self) -> (UseClass, bool, bool) {

@@ -27,8 +27,18 @@ pub struct CharCluster {
 
 impl CharCluster {
     pub fn new() -> Self {
-        let none = Pushed { ch: '\0', class: ShapeClass::Base, noted: 0, record: 0 };
-        Self { chars: [none; MAX_CLUSTER_SIZE], len: 0, normalize: false, info: ClusterInfo::NONE }
+        let none = Pushed {
+            ch: '\0',
+            class: ShapeClass::Base,
+            noted: 0,
+            record: 0,
+        };
+        Self {
+            chars: [none; MAX_CLUSTER_SIZE],
+            len: 0,
+            normalize: false,
+            info: ClusterInfo::NONE,
+        }
     }
 
     pub fn clear(&mut self) {
@@ -47,7 +57,12 @@ impl CharCluster {
 
     /// Panics at a 33rd, as the whole crate does.
     pub fn push(&mut self, token: &Token, class: ShapeClass) {
-        self.chars[self.len as usize] = Pushed { ch: token.ch, class, noted: 0, record: token.data };
+        self.chars[self.len as usize] = Pushed {
+            ch: token.ch,
+            class,
+            noted: 0,
+            record: token.data,
+        };
         self.len += 1;
     }
 

@@ -67,7 +67,11 @@ pub struct ClusterInfo {
 }
 
 impl ClusterInfo {
-    pub const NONE: Self = Self { emoji: Emoji::None, space: Whitespace::None, broken: false };
+    pub const NONE: Self = Self {
+        emoji: Emoji::None,
+        space: Whitespace::None,
+        broken: false,
+    };
 
     pub fn set_emoji(&mut self, emoji: Emoji) {
         self.emoji = emoji;
