@@ -2,8 +2,8 @@ use lib.Seq.{length-take-le}
 use mathlib.Core.Path.{sym}
 use native.Mathlib.Omega.{arith}
 use borrow.Author.Needs.{needs}
-use Rattle.label.proofs.draw_scalars.Statement.{statement}
-use Rattle.label.proofs.draw_scalars.Tie as tie
+use Rattle.label.proofs.labels.draw_scalars.Statement.{statement}
+use Rattle.label.proofs.labels.draw_scalars.Tie as tie
 
 classed-requires : tie.Need-classed-requires
 classed-requires c κs = search needs

@@ -1,8 +1,8 @@
 use lib.ListN.{length}
 use Prim.Native.Nat.{_-_}
 use borrow.Author.Needs.{needs}
-use Rattle.label.proofs.parser_of.Statement.{statement}
-use Rattle.label.proofs.parser_of.Tie as tie
+use Rattle.label.proofs.labels.parser_of.Statement.{statement}
+use Rattle.label.proofs.labels.parser_of.Tie as tie
 
 abbrev Inv-loop : tie.InvT-loop
 Inv-loop scalars i₀ i = Unit {0}

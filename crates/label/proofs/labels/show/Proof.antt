@@ -2,8 +2,8 @@ use lib.Seq.{length-take-le}
 use mathlib.Core.Path.{sym}
 use native.Mathlib.Omega.{arith}
 use borrow.Author.Needs.{needs}
-use Rattle.label.proofs.show.Statement.{statement}
-use Rattle.label.proofs.show.Tie as tie
+use Rattle.label.proofs.labels.show.Statement.{statement}
+use Rattle.label.proofs.labels.show.Tie as tie
 
 column32-requires : tie.Need-column32-requires
 column32-requires c κs = search needs
