@@ -107,6 +107,24 @@ module _ (all left out : List ℕ) (n x : ℕ) (r : Read all (x ∷ left) out n)
         cells = r .cells;
       }
 
+-- a scalar was stored, or there was no room: m and out′ are what is then
+pub read-next : (all left out : List ℕ) (n x : ℕ) → Read all (x ∷ left) out n → (m : ℕ) (out′ : List ℕ) → m ≡ cond (ltb n (length out)) (n + 1) n
+    → out′ ≡ set out n x → Read all left out′ m
+read-next all left out n x r m out′ em eo =
+    by-test (ltb n (length out))
+    (λ t. rw (em, eo, t) (read-stored all left out n x r (ltb-true n (length out) t)))
+    (λ t. rw (em, eo, t, set-out out n x (ltb-false n (length out) t)) (read-dropped all left out n x r (ltb-false n (length out) t)))
+
+-- every scalar that there is room for
+abbrev pub Written : List ℕ → List ℕ → ℕ → Type 0
+Written all out room = take (min (length all) room) out ≡ take (min (length all) room) all
+
+pub read-end : (all left out : List ℕ) (n room : ℕ) → Read all left out n → length out ≡ room → left ≡ [] → (n ≡ min (length all) room) × Written all out room
+read-end all left out n room r e d =
+    let f : length left ≡ 0 = ap length d in
+    let c : n ≡ min (length all) room = omega (arith, r .count) in
+    (c, rw (← c) (r .cells))
+
 -- the loop: `at` bytes are read, and n cells are written
 pub record Reading (bytes out₀ out : List ℕ) (at n : ℕ) : Type 0 where
   pub inside : at ≤ length bytes
@@ -117,16 +135,9 @@ pub record Reading (bytes out₀ out : List ℕ) (at n : ℕ) : Type 0 where
 pub reading-start : (bytes out : List ℕ) → Reading bytes out out 0 0
 reading-start bytes out = record { inside = omega arith; stops = omega arith; same = refl; read = read-start (scalarsFrom 0 bytes) out }
 
--- every scalar before the stop that there is room for
-abbrev pub Written : List ℕ → List ℕ → ℕ → Type 0
-Written all out room = take (min (length all) room) out ≡ take (min (length all) room) all
-
 module _ (bytes out₀ out : List ℕ) (at n : ℕ) (g : Reading bytes out₀ out at n) where
   all-written : scalarsFrom 0 (drop at bytes) ≡ [] → (n ≡ min (length (scalarsFrom 0 bytes)) (length out₀)) × Written (scalarsFrom 0 bytes) out (length out₀)
-  all-written e =
-      let f : length (scalarsFrom 0 (drop at bytes)) ≡ 0 = ap length e in
-      let c : n ≡ min (length (scalarsFrom 0 bytes)) (length out₀) = omega (arith, g .read .count, g .same) in
-      (c, rw (← c) (g .read .cells))
+  all-written e = read-end (scalarsFrom 0 bytes) (scalarsFrom 0 (drop at bytes)) out n (length out₀) (g .read) (g .same) e
 
   pub reading-end : length bytes ≤ at → (Scalars n ≡ readOf bytes (length out₀)) × Written (scalarsFrom 0 bytes) out (length out₀)
   unfolding readOf scalarsFrom stopFrom
@@ -170,14 +181,10 @@ module _ (bytes out₀ out : List ℕ) (at n : ℕ) (g : Reading bytes out₀ ou
         let c : scalarsFrom 0 (drop at bytes) ≡ x ∷ scalarsFrom 0 (drop k (drop at bytes)) = next-scalar (drop at bytes) x k left-some (omega arith) b in
         let c′ : scalarsFrom 0 (drop at bytes) ≡ x ∷ scalarsFrom 0 (drop (at + k) bytes) = rw d at c in
         let g′ : Read (scalarsFrom 0 bytes) (x ∷ scalarsFrom 0 (drop (at + k) bytes)) out n = rw c′ at (g .read) in
-        let z : length (set out n x) ≡ length out = length-set out n x in
-        rw eo
-        (record {
+        let z : length out′ ≡ length out = ap length eo ∙ length-set out n x in
+        record {
           inside = i .1;
           stops = omega (arith, g .stops);
           same = z ∙ g .same;
-          read =
-              by-test (ltb n (length out))
-              (λ t. rw (em, t) (read-stored _ _ out n x g′ (ltb-true n (length out) t)))
-              (λ t. rw (em, t, set-out out n x (ltb-false n (length out) t)) (read-dropped _ _ out n x g′ (ltb-false n (length out) t)));
-        })
+          read = read-next (scalarsFrom 0 bytes) (scalarsFrom 0 (drop (at + k) bytes)) out n x g′ m out′ em eo;
+        }

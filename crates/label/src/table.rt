@@ -1,5 +1,4 @@
 // The columns of the lines of data/label-classes.txt, made by data/make-label-table.
-pub(crate) const LEN: usize = 87;
 
 pub(crate) const FIRSTS: [u32; 87] = [
     0x0,

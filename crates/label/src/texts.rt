@@ -12,6 +12,7 @@ ghost use mathlib.Core.Bool.{cond};
 ghost use Prim.Native.Nat.{_+_, min};
 ghost use lib.Dec.{ltb};
 ghost use lib.ListN.{length, take, set};
+ghost use Rattle.label.specs.Numbers.{begins, scalarIn, numbersFrom, countedOf, labelScalars, labelOf};
 ghost use Rattle.label.specs.Utf8.{scalarsFrom, readOf};
 
 // How many scalars were read, or where none was: the byte or the number, counted from 0.
@@ -53,14 +54,18 @@ fn read_utf8(bytes: &[u8], out: &mut [u32]) -> Taken
     Taken::Scalars(n)
 }
 
-fn begins_number(word: &[u8]) -> bool {
+fn begins_number(word: &[u8]) -> bool
+    ensures { λ r. ⌜ r ≡ begins (now (word .entry)) ⌝ }
+{
     if cell8(word, 0) == b'U' {
         return cell8(word, 1) == b'+';
     }
     false
 }
 
-fn number(word: &[u8]) -> Number {
+fn number(word: &[u8]) -> Number
+    ensures { λ r. ⌜ r ≡ scalarIn (now (word .entry)) ⌝ }
+{
     if word.len() < 2 {
         return Number::Nothing;
     }
@@ -70,7 +75,10 @@ fn number(word: &[u8]) -> Number {
     Number::Nothing
 }
 
-fn read_numbers(bytes: &[u8], out: &mut [u32]) -> Taken {
+fn read_numbers(bytes: &[u8], out: &mut [u32]) -> Taken
+    ensures { λ r. ⌜ r ≡ countedOf (now (bytes .entry)) (length (now (out .entry))) ⌝ }
+    ensures { λ _. ⌜ take (min (length (numbersFrom 0 (now (bytes .entry)))) (length (now (out .entry)))) (now (out .exit)) ≡ take (min (length (numbersFrom 0 (now (bytes .entry)))) (length (now (out .entry)))) (numbersFrom 0 (now (bytes .entry))) ⌝ }
+{
     let mut at: usize = 0;
     let mut n: usize = 0;
     while at < bytes.len() {
@@ -87,7 +95,11 @@ fn read_numbers(bytes: &[u8], out: &mut [u32]) -> Taken {
     Taken::Scalars(n)
 }
 
-pub(crate) fn read(bytes: &[u8], out: &mut [u32]) -> Taken {
+// The answer says how many cells are written, and why not more.
+pub(crate) fn read(bytes: &[u8], out: &mut [u32]) -> Taken
+    ensures { λ r. ⌜ r ≡ labelOf (now (bytes .entry)) (length (now (out .entry))) ⌝ }
+    ensures { λ _. ⌜ take (min (length (labelScalars (now (bytes .entry)))) (length (now (out .entry)))) (now (out .exit)) ≡ take (min (length (labelScalars (now (bytes .entry)))) (length (now (out .entry)))) (labelScalars (now (bytes .entry))) ⌝ }
+{
     if begins_number(bytes) {
         return read_numbers(bytes, out);
     }
