@@ -48,9 +48,9 @@ def is_cluster_start(text, at):
 
 
 def follows_pictograph(text, at):
-    """Pictograph Extend* directly before `at`."""
+    """Pictograph Extend* directly before `at`; an Extend may be the pictograph too."""
     at -= 1
-    while at >= 0 and text.kinds[at] == "EX":
+    while at >= 0 and text.kinds[at] == "EX" and not text.marks[at]:
         at -= 1
     return at >= 0 and text.marks[at]
 

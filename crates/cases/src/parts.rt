@@ -84,7 +84,7 @@ pub(crate) fn same(xs: &[u8], ys: &[u8]) -> bool
 }
 
 // The byte of a text of one byte, else 0, which no line has in such a place.
-pub(crate) fn sign(xs: &[u8]) -> u8
+pub fn sign(xs: &[u8]) -> u8
     ensures { λ r. ⌜ r ≡ Parts.sign (now (xs .entry)) ⌝ }
 {
     if xs.len() == 1 {

@@ -1,5 +1,4 @@
 pub mod Given
 pub mod Progress
-pub mod Marked
 pub mod Spent
 pub mod Ignored

@@ -21,7 +21,6 @@ use results::unlisted_run;
 use steps::hand_over;
 use steps::next_asked;
 use wordsteps::tell_word;
-ghost use mathlib.Core.Path.{_≡_};
 ghost use mathlib.Core.List.{[]};
 ghost use lib.ListN.{length};
 ghost use Rattle.records.specs.Text.{textOf};
@@ -53,6 +52,15 @@ pub struct Given {
     pub count: u64,
 }
 
+// How many cells the results need: of a check and of a word run, of a full run, of a stepping call, of a word step.
+const CHECK_ROOM: usize = 3;
+
+const RUN_ROOM: usize = 5;
+
+const STEP_ROOM: usize = 12;
+
+const WORD_ROOM: usize = 8;
+
 // The check of a text for a parser. Results: refusal, side, index.
 #[no_mangle]
 pub extern "C" fn ezh_check(
@@ -79,7 +87,7 @@ pub extern "C" fn ezh_check(
 ) -> u64
     ensures { λ r. ⌜ Told (checkVerdict parser (textOf (now (scalars .entry)) (now (breaks .entry)) (now (uses .entry)) (now (myanmars .entry)) (now (categories .entry)) (now (words .entry)) (now (semojis .entry)) (now (memojis .entry)) (now (cemojis .entry)) (now (pictographs .entry)) (now (selectors .entry)) (now (decomposes .entry)) (now (firsts .entry)) (now (counts .entry)) (now (pscalars .entry)) (now (pbreaks .entry)) (now (puses .entry)) (now (pcategories .entry))) (length (now (results .entry)))) [] (now (results .entry)) r (now (results .exit)) ⌝ }
 {
-    if results.len() < 3 {
+    if results.len() < CHECK_ROOM {
         return 9;
     }
     let verdict = check_asked(
@@ -136,7 +144,7 @@ pub extern "C" fn ezh_run(
 ) -> u64
     ensures { λ r. ⌜ RanFor parser mode (textOf (now (scalars .entry)) (now (breaks .entry)) (now (uses .entry)) (now (myanmars .entry)) (now (categories .entry)) (now (words .entry)) (now (semojis .entry)) (now (memojis .entry)) (now (cemojis .entry)) (now (pictographs .entry)) (now (selectors .entry)) (now (decomposes .entry)) (now (firsts .entry)) (now (counts .entry)) (now (pscalars .entry)) (now (pbreaks .entry)) (now (puses .entry)) (now (pcategories .entry))) (now (oscalars .entry)) (now (oclasses .entry)) (now (oclusters .entry)) (now (results .entry)) r (now (oscalars .exit)) (now (oclasses .exit)) (now (oclusters .exit)) (now (results .exit)) ⌝ }
 {
-    if results.len() < 5 {
+    if results.len() < RUN_ROOM {
         return 9;
     }
     let wanted = requested(parser, mode);
@@ -208,7 +216,7 @@ pub extern "C" fn ezh_step(
 ) -> u64
     ensures { λ r. ⌜ SteppedFor parser mode place (textOf (now (scalars .entry)) (now (breaks .entry)) (now (uses .entry)) (now (myanmars .entry)) (now (categories .entry)) (now (words .entry)) (now (semojis .entry)) (now (memojis .entry)) (now (cemojis .entry)) (now (pictographs .entry)) (now (selectors .entry)) (now (decomposes .entry)) (now (firsts .entry)) (now (counts .entry)) (now (pscalars .entry)) (now (pbreaks .entry)) (now (puses .entry)) (now (pcategories .entry))) (now (cscalars .entry)) (now (cclasses .entry)) (now (crecords .entry)) (now (cnoted .entry)) (now (results .entry)) r (now (cscalars .exit)) (now (cclasses .exit)) (now (crecords .exit)) (now (cnoted .exit)) (now (results .exit)) ⌝ }
 {
-    if results.len() < 12 {
+    if results.len() < STEP_ROOM {
         return 9;
     }
     let step = next_asked(
@@ -243,7 +251,7 @@ pub extern "C" fn ezh_step(
 pub extern "C" fn ezh_check_words(words: &[u8], pictographs: &[u8], results: &mut [u64]) -> u64
     ensures { λ r. ⌜ Told (checkWordsVerdict (now (words .entry)) (now (pictographs .entry)) (length (now (results .entry)))) [] (now (results .entry)) r (now (results .exit)) ⌝ }
 {
-    if results.len() < 3 {
+    if results.len() < CHECK_ROOM {
         return 9;
     }
     tell(check_words(words, pictographs), results)
@@ -259,7 +267,7 @@ pub extern "C" fn ezh_run_words(
 ) -> u64
     ensures { λ r. ⌜ WordsRan (now (words .entry)) (now (pictographs .entry)) (now (out .entry)) (now (results .entry)) r (now (out .exit)) (now (results .exit)) ⌝ }
 {
-    if results.len() < 3 {
+    if results.len() < CHECK_ROOM {
         return 9;
     }
     let verdict = words::run(words, pictographs, out);
@@ -281,7 +289,7 @@ pub extern "C" fn ezh_step_word(
 ) -> u64
     ensures { λ r. ⌜ WordStepFor (record { first = first; previous = previous; prevent = prevent; count = count }) class pictograph (now (rest .entry)) (now (results .entry)) r (now (results .exit)) ⌝ }
 {
-    if results.len() < 8 {
+    if results.len() < WORD_ROOM {
         return 9;
     }
     let given = Given {

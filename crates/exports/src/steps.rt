@@ -22,7 +22,7 @@ ghost use Rattle.exports.specs.Results.{Told};
 ghost use Rattle.exports.specs.Steps.{refusedAt, accepted, roomyOr, stepFor, emojiCode, spaceCode, spaceScalar, stepNumbers, Fits, Stepped};
 
 // How many characters a cluster can have, and so how many cells each of its columns needs.
-const MOST: usize = 32;
+const CLUSTER_ROOM: usize = 32;
 
 fn refused_at(place: usize, number: u8, side: Side, index: usize) -> Step
     ensures { λ r. ⌜ r ≡ refusedAt place number side index ⌝ }
@@ -44,7 +44,7 @@ fn refused_at(place: usize, number: u8, side: Side, index: usize) -> Step
 fn roomy(what: u64, place: usize, cells: usize, a: Answer) -> Step
     ensures { λ r. ⌜ r ≡ roomyOr place cells (accepted what a) ⌝ }
 {
-    if cells < MOST {
+    if cells < CLUSTER_ROOM {
         return refused_at(place, 9, Side::Neither, 0);
     }
     let at = a.state.place.at;

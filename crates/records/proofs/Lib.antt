@@ -2,3 +2,4 @@ pub mod Accepted
 pub mod Any
 pub mod Chain
 pub mod Over
+pub mod Unique

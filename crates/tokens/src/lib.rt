@@ -8,7 +8,7 @@ use records::MOST;
 use records::cells::cell8;
 ghost use mathlib.Core.Path.{_≡_};
 ghost use Prim.Native.Nat.{_-_, min};
-ghost use lib.ListN.{length, take};
+ghost use lib.ListN.{length, take, drop};
 ghost use Rattle.records.specs.Refusals.{most};
 ghost use Rattle.tokens.specs.Tokens.{itself, split, gather, fetchIn, countFrom};
 
@@ -22,7 +22,8 @@ pub enum Fetched {
     Over,
 }
 
-// The tokens of the simple or the Myanmar parser, as many as there is room for: each record is one.
+// The tokens of the simple or the Myanmar parser, as many as there is room for: each record is one. Cells past
+// them keep their content.
 pub fn fill(
     scalars: &[u32],
     kinds: &[u8],
@@ -32,7 +33,7 @@ pub fn fill(
     selectors: &[u8],
     out: &mut [u64],
 ) -> usize
-    ensures { λ r. ⌜ (r ≡ min (length (now (scalars .entry))) (length (now (out .entry)))) × (take r (now (out .exit)) ≡ take r (gather (itself (record { scalars = now (scalars .entry); kinds = now (kinds .entry); breaks = now (breaks .entry); categories = now (categories .entry); emojis = now (emojis .entry); selectors = now (selectors .entry) })) 0 (length (now (scalars .entry))))) ⌝ }
+    ensures { λ r. ⌜ ((r ≡ min (length (now (scalars .entry))) (length (now (out .entry)))) × (take r (now (out .exit)) ≡ take r (gather (itself (record { scalars = now (scalars .entry); kinds = now (kinds .entry); breaks = now (breaks .entry); categories = now (categories .entry); emojis = now (emojis .entry); selectors = now (selectors .entry) })) 0 (length (now (scalars .entry)))))) × (drop r (now (out .exit)) ≡ drop r (now (out .entry))) ⌝ }
 {
     let mut i: usize = 0;
     while i < scalars.len() {
@@ -141,7 +142,7 @@ pub fn collect(
     pcategories: &[u8],
     out: &mut [u64],
 ) -> usize
-    ensures { λ r. ⌜ (r ≡ min (length (gather (split khmer (record { scalars = now (scalars .entry); kinds = now (kinds .entry); breaks = now (breaks .entry); categories = now (categories .entry); emojis = now (emojis .entry); selectors = now (selectors .entry) }) (record { decomposes = now (decomposes .entry); firsts = now (firsts .entry); counts = now (counts .entry) }) (record { pscalars = now (pscalars .entry); pbreaks = now (pbreaks .entry); puses = now (puses .entry); pcategories = now (pcategories .entry) })) 0 (length (now (scalars .entry))))) (length (now (out .entry)))) × (take r (now (out .exit)) ≡ take r (gather (split khmer (record { scalars = now (scalars .entry); kinds = now (kinds .entry); breaks = now (breaks .entry); categories = now (categories .entry); emojis = now (emojis .entry); selectors = now (selectors .entry) }) (record { decomposes = now (decomposes .entry); firsts = now (firsts .entry); counts = now (counts .entry) }) (record { pscalars = now (pscalars .entry); pbreaks = now (pbreaks .entry); puses = now (puses .entry); pcategories = now (pcategories .entry) })) 0 (length (now (scalars .entry))))) ⌝ }
+    ensures { λ r. ⌜ ((r ≡ min (length (gather (split khmer (record { scalars = now (scalars .entry); kinds = now (kinds .entry); breaks = now (breaks .entry); categories = now (categories .entry); emojis = now (emojis .entry); selectors = now (selectors .entry) }) (record { decomposes = now (decomposes .entry); firsts = now (firsts .entry); counts = now (counts .entry) }) (record { pscalars = now (pscalars .entry); pbreaks = now (pbreaks .entry); puses = now (puses .entry); pcategories = now (pcategories .entry) })) 0 (length (now (scalars .entry))))) (length (now (out .entry)))) × (take r (now (out .exit)) ≡ take r (gather (split khmer (record { scalars = now (scalars .entry); kinds = now (kinds .entry); breaks = now (breaks .entry); categories = now (categories .entry); emojis = now (emojis .entry); selectors = now (selectors .entry) }) (record { decomposes = now (decomposes .entry); firsts = now (firsts .entry); counts = now (counts .entry) }) (record { pscalars = now (pscalars .entry); pbreaks = now (pbreaks .entry); puses = now (puses .entry); pcategories = now (pcategories .entry) })) 0 (length (now (scalars .entry)))))) × (drop r (now (out .exit)) ≡ drop r (now (out .entry))) ⌝ }
 {
     let mut filled: usize = 0;
     let mut i: usize = 0;

@@ -16,6 +16,7 @@ use Rattle.records.specs.Refusals.{wordVerdict}
 use Rattle.records.specs.declared.Side.{Side}
 use Rattle.records.specs.declared.Verdict.{Verdict}
 use Rattle.records.specs.declared.Verdict.the-variants.{Accepted, Refused}
+use Rattle.records.proofs.Unique.{unique}
 use Rattle.words.specs.declared.WordState.{WordState}
 use Rattle.words.specs.declared.WordStep.{WordStep}
 use Rattle.words.specs.declared.Next.{Next}
@@ -142,3 +143,15 @@ module _ (words pictographs out : List ℕ) where
       rw e
       (rw (answers-length words pictographs (length words)) at (getD-append-add (answers words pictographs (length words)) (drop (length words) out) k 0)
       ∙ getD-drop (length words) out k 0)
+
+-- "Uniqueness is shown"
+pub word-step-unique : (s : WordState) (class pictograph : ℕ) (next : Next) (a b : WordStep) → a ≡ stepOf s class pictograph next → b ≡ stepOf s class pictograph next → a ≡ b
+word-step-unique s class pictograph next = unique (stepOf s class pictograph next)
+
+module _ (words pictographs out : List ℕ) where
+  -- a run's contract: its verdict, and the lent column afterwards
+  abbrev WordRan : Verdict → List ℕ → Type 0
+  WordRan r out′ = (r ≡ runVerdict words pictographs (length out)) × (out′ ≡ runCells words pictographs out)
+
+  pub word-run-unique : (r q : Verdict) (out′ out″ : List ℕ) → WordRan r out′ → WordRan q out″ → (r ≡ q) × (out′ ≡ out″)
+  word-run-unique r q out′ out″ a b = (unique _ r q (a .0) (b .0), unique _ out′ out″ (a .1) (b .1))

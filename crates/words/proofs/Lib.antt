@@ -3,4 +3,3 @@ pub mod Answers
 pub mod Chain
 pub mod Effects
 pub mod Laws
-pub mod Marked

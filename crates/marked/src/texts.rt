@@ -1,0 +1,198 @@
+// The text of a case as 18 lent columns, and one stepping call on it.
+use classes::category;
+use classes::cluster_break;
+use classes::myanmar_class;
+use classes::use_class;
+use classes::word_break;
+use records::Parser;
+use segment::Answer;
+use segment::Segmenter;
+
+// What a case says of a record: its scalar, its class for the parser of the case, whether it is an emoji, its count of parts.
+pub(crate) struct Sign {
+    pub scalar: u32,
+    pub class: u8,
+    pub emoji: u8,
+    pub count: u8,
+}
+
+pub(crate) fn of_class(scalar: u32, class: u8) -> Sign {
+    Sign {
+        scalar,
+        class,
+        emoji: 0,
+        count: 0,
+    }
+}
+
+// Records of a case, at most 32: three of their own, and all later ones are the fourth. `part` is the one part of the text, lent
+// where a record has parts.
+pub(crate) struct Text {
+    pub parser: Parser,
+    pub len: usize,
+    pub a: Sign,
+    pub b: Sign,
+    pub c: Sign,
+    pub d: Sign,
+    pub part: Sign,
+}
+
+fn column32(a: u32, b: u32, c: u32, d: u32) -> [u32; 32] {
+    let mut column = [d; 32];
+    column[0] = a;
+    column[1] = b;
+    column[2] = c;
+    column
+}
+
+fn column8(a: u8, b: u8, c: u8, d: u8) -> [u8; 32] {
+    let mut column = [d; 32];
+    column[0] = a;
+    column[1] = b;
+    column[2] = c;
+    column
+}
+
+// A column of classes: the parser's own, or the class that no rule names.
+fn own(is_own: bool, classes: [u8; 32], rest: u8) -> [u8; 32] {
+    if is_own {
+        return classes;
+    }
+    [rest; 32]
+}
+
+fn is_simple(parser: Parser) -> bool {
+    match parser {
+        Parser::Simple => true,
+        Parser::Myanmar => false,
+        Parser::Complex => false,
+        Parser::Khmer => false,
+    }
+}
+
+fn is_myanmar(parser: Parser) -> bool {
+    match parser {
+        Parser::Simple => false,
+        Parser::Myanmar => true,
+        Parser::Complex => false,
+        Parser::Khmer => false,
+    }
+}
+
+fn is_complex(parser: Parser) -> bool {
+    match parser {
+        Parser::Simple => false,
+        Parser::Myanmar => false,
+        Parser::Complex => true,
+        Parser::Khmer => true,
+    }
+}
+
+fn cut8(s: &[u8], n: usize) -> &[u8] {
+    if n <= s.len() { &s[..n] } else { s }
+}
+
+fn cut16(s: &[u16], n: usize) -> &[u16] {
+    if n <= s.len() { &s[..n] } else { s }
+}
+
+fn cut32(s: &[u32], n: usize) -> &[u32] {
+    if n <= s.len() { &s[..n] } else { s }
+}
+
+// The first n records and the first m parts.
+fn next_of(
+    s: Segmenter,
+    n: usize,
+    m: usize,
+    scalars: &[u32],
+    breaks: &[u8],
+    uses: &[u8],
+    myanmars: &[u8],
+    categories: &[u8],
+    words: &[u8],
+    semojis: &[u8],
+    memojis: &[u8],
+    cemojis: &[u8],
+    pictographs: &[u8],
+    selectors: &[u8],
+    decomposes: &[u8],
+    firsts: &[u16],
+    counts: &[u8],
+    pscalars: &[u32],
+    pbreaks: &[u8],
+    puses: &[u8],
+    pcategories: &[u8],
+) -> Answer {
+    s.next(
+        cut32(scalars, n),
+        cut8(breaks, n),
+        cut8(uses, n),
+        cut8(myanmars, n),
+        cut8(categories, n),
+        cut8(words, n),
+        cut8(semojis, n),
+        cut8(memojis, n),
+        cut8(cemojis, n),
+        cut8(pictographs, n),
+        cut8(selectors, n),
+        cut8(decomposes, n),
+        cut16(firsts, n),
+        cut8(counts, n),
+        cut32(pscalars, m),
+        cut8(pbreaks, m),
+        cut8(puses, m),
+        cut8(pcategories, m),
+    )
+}
+
+pub(crate) fn next(s: Segmenter, t: Text) -> Answer {
+    let parser = t.parser;
+    let part = t.part;
+    let a = t.a;
+    let b = t.b;
+    let c = t.c;
+    let d = t.d;
+    let classes = column8(a.class, b.class, c.class, d.class);
+    let scalars = column32(a.scalar, b.scalar, c.scalar, d.scalar);
+    let breaks = own(is_simple(parser), classes, cluster_break::XX);
+    let uses = own(is_complex(parser), classes, use_class::REST);
+    let myanmars = own(is_myanmar(parser), classes, myanmar_class::REST);
+    let categories = [category::Other; 32];
+    let words = [word_break::Other; 32];
+    let semojis = column8(a.emoji, b.emoji, c.emoji, d.emoji);
+    let memojis = [0u8; 32];
+    let cemojis = [0u8; 32];
+    let pictographs = [0u8; 32];
+    let selectors = [0u8; 32];
+    let decomposes = [0u8; 32];
+    let firsts = [0u16; 32];
+    let counts = column8(a.count, b.count, c.count, d.count);
+    let pscalars = [part.scalar];
+    let pbreaks = [cluster_break::XX];
+    let puses = [part.class];
+    let pcategories = [category::Other];
+    next_of(
+        s,
+        t.len,
+        part.count as usize,
+        &scalars,
+        &breaks,
+        &uses,
+        &myanmars,
+        &categories,
+        &words,
+        &semojis,
+        &memojis,
+        &cemojis,
+        &pictographs,
+        &selectors,
+        &decomposes,
+        &firsts,
+        &counts,
+        &pscalars,
+        &pbreaks,
+        &puses,
+        &pcategories,
+    )
+}

@@ -1,0 +1,11 @@
+pub mod Tests
+pub mod ClustersNeighbours
+pub mod ClustersAfter
+pub mod ClustersCall
+pub mod ClustersPlain
+pub mod ClustersStep
+pub mod ClustersNumbers
+pub mod ClustersModes
+pub mod WordsStep
+pub mod WordsPlain
+pub mod Differ

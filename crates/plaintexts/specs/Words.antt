@@ -1,0 +1,18 @@
+-- Plain word texts, as document 01 defines them: "no Extend, FO, ZWJ; no RI directly after CR, LF or NL".
+use Prim.Native.Nat.{ℕ, _+_}
+use mathlib.Core.Bool.{Bool, not, _&&_}
+use mathlib.Core.List.{List}
+use lib.Dec.{eqb}
+use lib.ListN.{length}
+use Rattle.classes.specs.WordBreak.{RI}
+use Rattle.records.specs.Text.{cell}
+use Rattle.records.specs.Refusals.{member}
+use Rattle.plain.specs.Words.{newlines, ignored}
+use Rattle.plaintexts.specs.Clusters.{every}
+
+-- the record at an index; the cell after the last one is read as 0, which is Other
+unfoldable pub plainWordAt : List ℕ → ℕ → Bool
+plainWordAt words i = not (member ignored (cell words i)) && not (member newlines (cell words i) && eqb (cell words (i + 1)) RI)
+
+unfoldable pub isPlainWords : List ℕ → Bool
+isPlainWords words = every (plainWordAt words) (length words)

@@ -1,0 +1,6 @@
+pub mod Called
+pub mod Held
+pub mod Left
+pub mod Locals
+pub mod Stands
+pub mod Walk
