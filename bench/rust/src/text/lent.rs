@@ -1,0 +1,115 @@
+//! The properties that the Rust parsers ask a bare character for. In a text of a script each scalar has one set of them, so they
+//! are looked up by scalar, as swash does; the oracle's shim, where two records may have one scalar and other columns, would be
+//! slower than swash here.
+
+use super::{Category, ClusterBreak, LineBreak, UseClass, WordBreak};
+use std::cell::Cell;
+
+#[derive(Copy, Clone, Default)]
+pub struct Properties {
+    pub cluster_break: ClusterBreak,
+    pub use_class: UseClass,
+    pub category: Category,
+    pub word: WordBreak,
+    pub pictograph: bool,
+}
+
+impl Properties {
+    pub fn of_word(word: WordBreak, pictograph: bool) -> Self {
+        Self {
+            word,
+            pictograph,
+            ..Self::default()
+        }
+    }
+
+    pub fn use_class(&self) -> (UseClass, bool, bool) {
+        (self.use_class, false, false)
+    }
+
+    pub fn word_break(&self) -> WordBreak {
+        self.word
+    }
+
+    pub fn is_extended_pictographic(&self) -> bool {
+        self.pictograph
+    }
+
+    pub fn line_break(&self) -> LineBreak {
+        LineBreak::XX
+    }
+
+    pub fn bidi_class(&self) -> BidiClass {
+        BidiClass
+    }
+}
+
+/// Bidi is left out; analyze.rs names it.
+pub struct BidiClass;
+
+impl BidiClass {
+    pub fn needs_resolution(&self) -> bool {
+        false
+    }
+}
+
+#[derive(Copy, Clone, Default)]
+pub struct Part {
+    pub ch: char,
+    pub properties: Properties,
+}
+
+/// The parts of a character that has some.
+#[derive(Copy, Clone)]
+pub struct Parts {
+    pub of: char,
+    pub chars: [char; 3],
+    pub len: usize,
+}
+
+/// What the text's marked records decompose into, and the properties of all parts.
+#[derive(Copy, Clone)]
+pub enum Lent {
+    Parts(&'static [Parts], &'static [Part]),
+    Words,
+}
+
+thread_local! {
+    static LENT: Cell<Lent> = const { Cell::new(Lent::Words) };
+}
+
+impl Lent {
+    pub fn lend(self) {
+        LENT.set(self);
+    }
+}
+
+pub struct Decomposition([char; 3], usize);
+
+impl Decomposition {
+    pub fn chars(&self) -> &[char] {
+        &self.0[..self.1]
+    }
+}
+
+pub trait Codepoint {
+    fn properties(self) -> Properties;
+    fn decompose(self) -> Decomposition;
+}
+
+impl Codepoint for char {
+    fn properties(self) -> Properties {
+        match LENT.get() {
+            Lent::Words => super::words::properties(self),
+            Lent::Parts(_, parts) => parts.iter().find(|part| part.ch == self).expect("a part of the text").properties,
+        }
+    }
+
+    fn decompose(self) -> Decomposition {
+        let Lent::Parts(all, _) = LENT.get() else {
+            panic!("no parts were lent");
+        };
+        let own = all.iter().find(|parts| parts.of == self).expect("a marked character of the text");
+        Decomposition(own.chars, own.len)
+    }
+}
