@@ -2,7 +2,7 @@
 //! are looked up by scalar, as swash does; the oracle's shim, where two records may have one scalar and other columns, would be
 //! slower than swash here.
 
-use super::{Category, ClusterBreak, LineBreak, UseClass, WordBreak};
+use super::{Category, ClusterBreak, Part, UseClass, WordBreak};
 use std::cell::Cell;
 
 #[derive(Copy, Clone, Default)]
@@ -12,51 +12,6 @@ pub struct Properties {
     pub category: Category,
     pub word: WordBreak,
     pub pictograph: bool,
-}
-
-impl Properties {
-    pub fn of_word(word: WordBreak, pictograph: bool) -> Self {
-        Self {
-            word,
-            pictograph,
-            ..Self::default()
-        }
-    }
-
-    pub fn use_class(&self) -> (UseClass, bool, bool) {
-        (self.use_class, false, false)
-    }
-
-    pub fn word_break(&self) -> WordBreak {
-        self.word
-    }
-
-    pub fn is_extended_pictographic(&self) -> bool {
-        self.pictograph
-    }
-
-    pub fn line_break(&self) -> LineBreak {
-        LineBreak::XX
-    }
-
-    pub fn bidi_class(&self) -> BidiClass {
-        BidiClass
-    }
-}
-
-/// Bidi is left out; analyze.rs names it.
-pub struct BidiClass;
-
-impl BidiClass {
-    pub fn needs_resolution(&self) -> bool {
-        false
-    }
-}
-
-#[derive(Copy, Clone, Default)]
-pub struct Part {
-    pub ch: char,
-    pub properties: Properties,
 }
 
 /// The parts of a character that has some.

@@ -3,7 +3,7 @@
 //! lent here just before: the parts of a record when its USE class is asked (`Tokens::next`
 //! does this directly before it decomposes), or the word columns for a word run.
 
-use super::{Category, ClusterBreak, LineBreak, UseClass, WordBreak};
+use super::{Category, ClusterBreak, Part, UseClass, WordBreak};
 use std::cell::Cell;
 
 #[derive(Copy, Clone, Default)]
@@ -15,48 +15,6 @@ pub struct Properties {
     pub pictograph: bool,
     /// The token's number in the stream, so that a pushed token says its place.
     pub token: usize,
-}
-
-impl Properties {
-    pub fn of_word(word: WordBreak, pictograph: bool) -> Self {
-        Self { word, pictograph, ..Self::default() }
-    }
-
-    /// "Parts are never split again", and "a part's emoji mark is no".
-    pub fn use_class(&self) -> (UseClass, bool, bool) {
-        (self.use_class, false, false)
-    }
-
-    pub fn word_break(&self) -> WordBreak {
-        self.word
-    }
-
-    pub fn is_extended_pictographic(&self) -> bool {
-        self.pictograph
-    }
-
-    pub fn line_break(&self) -> LineBreak {
-        LineBreak::XX
-    }
-
-    pub fn bidi_class(&self) -> BidiClass {
-        BidiClass
-    }
-}
-
-/// Bidi is left out; analyze.rs names it.
-pub struct BidiClass;
-
-impl BidiClass {
-    pub fn needs_resolution(&self) -> bool {
-        false
-    }
-}
-
-#[derive(Copy, Clone, Default)]
-pub struct Part {
-    pub ch: char,
-    pub properties: Properties,
 }
 
 /// The 0 to 3 parts of one record.

@@ -1,12 +1,14 @@
 //! The surroundings of the parsers, in place of swash's own: every property is answered from
 //! lent columns.
 
+mod answers;
 pub mod cluster;
 mod lent;
 mod unicode_data;
 pub mod words;
 
-pub use lent::{Codepoint, Lent, Part, Parts, Properties};
+pub use answers::Part;
+pub use lent::{Codepoint, Lent, Parts, Properties};
 pub use unicode_data::{Category, ClusterBreak, LineBreak, MyanmarClass, UseClass, WordBreak};
 
 /// Only Khmer makes a difference to the parsers.

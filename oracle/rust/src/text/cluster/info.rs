@@ -1,6 +1,9 @@
 //! What a token's columns say, and what a parser says of its cluster.
 
-use super::super::{Category, ClusterBreak, Lent, MyanmarClass, Parts, Properties, UseClass};
+mod said;
+
+use super::super::{Lent, MyanmarClass, Parts, Properties, UseClass};
+pub use said::{Emoji, Whitespace};
 
 #[derive(Copy, Clone, Default)]
 pub struct CharInfo {
@@ -15,72 +18,14 @@ pub struct CharInfo {
 }
 
 impl CharInfo {
-    pub fn cluster_class(&self) -> (ClusterBreak, bool) {
-        (self.properties.cluster_break, self.emoji_simple)
-    }
-
-    pub fn myanmar_class(&self) -> (MyanmarClass, bool) {
-        (self.myanmar, self.emoji_myanmar)
-    }
-
     pub fn use_class(&self) -> (UseClass, bool, bool) {
         Lent::Parts(self.parts).lend();
         (self.properties.use_class, self.decompose, self.emoji_complex)
     }
-
-    pub fn cluster_break(&self) -> ClusterBreak {
-        self.properties.cluster_break
-    }
-
-    pub fn category(&self) -> Category {
-        self.properties.category
-    }
-
-    pub fn is_variation_selector(&self) -> bool {
-        self.selector
-    }
-
-    pub fn with_properties(self, properties: Properties) -> Self {
-        Self { properties, ..self }
-    }
-}
-
-#[derive(Copy, Clone)]
-pub enum Emoji {
-    None,
-    Default,
-    Text,
-    Color,
-}
-
-/// "None, newline, or from a scalar".
-#[derive(Copy, Clone)]
-pub enum Whitespace {
-    None,
-    Newline,
-    Scalar(char),
 }
 
 pub struct ClusterInfo {
     pub emoji: Emoji,
     pub space: Whitespace,
     pub broken: bool,
-}
-
-impl ClusterInfo {
-    pub fn set_emoji(&mut self, emoji: Emoji) {
-        self.emoji = emoji;
-    }
-
-    pub fn set_space(&mut self, space: Whitespace) {
-        self.space = space;
-    }
-
-    pub fn set_space_from_char(&mut self, ch: char) {
-        self.space = Whitespace::Scalar(ch);
-    }
-
-    pub fn set_broken(&mut self) {
-        self.broken = true;
-    }
 }

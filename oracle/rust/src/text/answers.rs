@@ -1,0 +1,46 @@
+//! What the properties of a character answer to the Rust, and what stands for a thing that is left out.
+
+use super::lent::Properties;
+use super::{LineBreak, UseClass, WordBreak};
+
+impl Properties {
+    pub fn of_word(word: WordBreak, pictograph: bool) -> Self {
+        Self { word, pictograph, ..Self::default() }
+    }
+
+    /// "Parts are never split again", and "a part's emoji mark is no".
+    pub fn use_class(&self) -> (UseClass, bool, bool) {
+        (self.use_class, false, false)
+    }
+
+    pub fn word_break(&self) -> WordBreak {
+        self.word
+    }
+
+    pub fn is_extended_pictographic(&self) -> bool {
+        self.pictograph
+    }
+
+    pub fn line_break(&self) -> LineBreak {
+        LineBreak::XX
+    }
+
+    pub fn bidi_class(&self) -> BidiClass {
+        BidiClass
+    }
+}
+
+/// Bidi is left out; analyze.rs names it.
+pub struct BidiClass;
+
+impl BidiClass {
+    pub fn needs_resolution(&self) -> bool {
+        false
+    }
+}
+
+#[derive(Copy, Clone, Default)]
+pub struct Part {
+    pub ch: char,
+    pub properties: Properties,
+}
