@@ -2,7 +2,7 @@
 //! are looked up by scalar, as swash does; the oracle's shim, where two records may have one scalar and other columns, would be
 //! slower than swash here.
 
-use super::{Category, ClusterBreak, Part, UseClass, WordBreak};
+use super::{Category, ClusterBreak, Codepoint, Decomposition, Part, UseClass, WordBreak};
 use std::cell::Cell;
 
 #[derive(Copy, Clone, Default)]
@@ -37,19 +37,6 @@ impl Lent {
     pub fn lend(self) {
         LENT.set(self);
     }
-}
-
-pub struct Decomposition([char; 3], usize);
-
-impl Decomposition {
-    pub fn chars(&self) -> &[char] {
-        &self.0[..self.1]
-    }
-}
-
-pub trait Codepoint {
-    fn properties(self) -> Properties;
-    fn decompose(self) -> Decomposition;
 }
 
 impl Codepoint for char {

@@ -44,3 +44,18 @@ pub struct Part {
     pub ch: char,
     pub properties: Properties,
 }
+
+/// What the Rust asks a bare character for.
+pub trait Codepoint {
+    fn properties(self) -> Properties;
+    fn decompose(self) -> Decomposition;
+}
+
+/// The scalars of a character's parts.
+pub struct Decomposition(pub [char; 3], pub usize);
+
+impl Decomposition {
+    pub fn chars(&self) -> &[char] {
+        &self.0[..self.1]
+    }
+}

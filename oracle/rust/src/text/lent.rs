@@ -3,7 +3,7 @@
 //! lent here just before: the parts of a record when its USE class is asked (`Tokens::next`
 //! does this directly before it decomposes), or the word columns for a word run.
 
-use super::{Category, ClusterBreak, Part, UseClass, WordBreak};
+use super::{Category, ClusterBreak, Codepoint, Decomposition, Part, UseClass, WordBreak};
 use std::cell::Cell;
 
 #[derive(Copy, Clone, Default)]
@@ -67,20 +67,6 @@ impl Lent {
     pub fn lend(self) {
         LENT.set(self);
     }
-}
-
-/// The scalars of the lent parts, as `decompose` hands them out.
-pub struct Decomposition([char; 3], usize);
-
-impl Decomposition {
-    pub fn chars(&self) -> &[char] {
-        &self.0[..self.1]
-    }
-}
-
-pub trait Codepoint {
-    fn properties(self) -> Properties;
-    fn decompose(self) -> Decomposition;
 }
 
 impl Codepoint for char {

@@ -7,8 +7,8 @@ mod lent;
 mod unicode_data;
 pub mod words;
 
-pub use answers::Part;
-pub use lent::{Codepoint, Lent, Parts, Properties};
+pub use answers::{Codepoint, Decomposition, Part};
+pub use lent::{Lent, Parts, Properties};
 pub use unicode_data::{Category, ClusterBreak, LineBreak, MyanmarClass, UseClass, WordBreak};
 
 /// Only Khmer makes a difference to the parsers.
