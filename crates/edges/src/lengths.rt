@@ -3,39 +3,30 @@ use crate::verdicts;
 use crate::verdicts::write;
 use records::Parser;
 use records::Verdict;
-
-fn cut8(s: &[u8], n: usize) -> &[u8] {
-    if n <= s.len() { &s[..n] } else { s }
-}
-
-fn cut16(s: &[u16], n: usize) -> &[u16] {
-    if n <= s.len() { &s[..n] } else { s }
-}
-
-fn cut32(s: &[u32], n: usize) -> &[u32] {
-    if n <= s.len() { &s[..n] } else { s }
-}
+use records::cells::first8;
+use records::cells::first16;
+use records::cells::first32;
 
 // Column k is `other` cells long, the rest `usual`.
 fn column8(s: &[u8], column: u8, k: u8, other: usize, usual: usize) -> &[u8] {
     if column == k {
-        return cut8(s, other);
+        return first8(s, other);
     }
-    cut8(s, usual)
+    first8(s, usual)
 }
 
 fn column16(s: &[u16], column: u8, k: u8, other: usize, usual: usize) -> &[u16] {
     if column == k {
-        return cut16(s, other);
+        return first16(s, other);
     }
-    cut16(s, usual)
+    first16(s, usual)
 }
 
 fn column32(s: &[u32], column: u8, k: u8, other: usize, usual: usize) -> &[u32] {
     if column == k {
-        return cut32(s, other);
+        return first32(s, other);
     }
-    cut32(s, usual)
+    first32(s, usual)
 }
 
 fn check(b: &[u8], h: &[u16], w: &[u32], k: u8, other: usize, usual: usize) -> Verdict {
@@ -91,7 +82,7 @@ fn word_columns(b: &[u8], words: usize, pictographs: usize) {
     verdicts::decimal(words as u64);
     write(b" and ");
     verdicts::decimal(pictographs as u64);
-    verdicts::verdict(records::check_words(cut8(b, words), cut8(b, pictographs)));
+    verdicts::verdict(records::check_words(first8(b, words), first8(b, pictographs)));
     write(b"\n");
 }
 

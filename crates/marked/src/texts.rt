@@ -5,6 +5,9 @@ use classes::myanmar_class;
 use classes::use_class;
 use classes::word_break;
 use records::Parser;
+use records::cells::first8;
+use records::cells::first16;
+use records::cells::first32;
 use segment::Answer;
 use segment::Segmenter;
 
@@ -88,18 +91,6 @@ fn is_complex(parser: Parser) -> bool {
     }
 }
 
-fn cut8(s: &[u8], n: usize) -> &[u8] {
-    if n <= s.len() { &s[..n] } else { s }
-}
-
-fn cut16(s: &[u16], n: usize) -> &[u16] {
-    if n <= s.len() { &s[..n] } else { s }
-}
-
-fn cut32(s: &[u32], n: usize) -> &[u32] {
-    if n <= s.len() { &s[..n] } else { s }
-}
-
 // The first n records and the first m parts.
 fn next_of(
     s: Segmenter,
@@ -125,24 +116,24 @@ fn next_of(
     pcategories: &[u8],
 ) -> Answer {
     s.next(
-        cut32(scalars, n),
-        cut8(breaks, n),
-        cut8(uses, n),
-        cut8(myanmars, n),
-        cut8(categories, n),
-        cut8(words, n),
-        cut8(semojis, n),
-        cut8(memojis, n),
-        cut8(cemojis, n),
-        cut8(pictographs, n),
-        cut8(selectors, n),
-        cut8(decomposes, n),
-        cut16(firsts, n),
-        cut8(counts, n),
-        cut32(pscalars, m),
-        cut8(pbreaks, m),
-        cut8(puses, m),
-        cut8(pcategories, m),
+        first32(scalars, n),
+        first8(breaks, n),
+        first8(uses, n),
+        first8(myanmars, n),
+        first8(categories, n),
+        first8(words, n),
+        first8(semojis, n),
+        first8(memojis, n),
+        first8(cemojis, n),
+        first8(pictographs, n),
+        first8(selectors, n),
+        first8(decomposes, n),
+        first16(firsts, n),
+        first8(counts, n),
+        first32(pscalars, m),
+        first8(pbreaks, m),
+        first8(puses, m),
+        first8(pcategories, m),
     )
 }
 

@@ -2,6 +2,7 @@
 ghost use mathlib.Core.Path.{_≡_};
 ghost use mathlib.Core.Bool.{_||_};
 ghost use lib.Dec.{leb, ltb};
+ghost use lib.ListN.{take};
 ghost use Rattle.records.specs.Text.{cell};
 ghost use Rattle.records.specs.Refusals.{any, member};
 
@@ -21,6 +22,37 @@ pub fn cell32(column: &[u32], i: usize) -> u32
     ensures { λ r. ⌜ r ≡ cell (now (column .entry)) i ⌝ }
 {
     if i < column.len() { column[i] } else { 0 }
+}
+
+// The first n cells, or the whole column where it has fewer.
+pub fn first8(column: &[u8], n: usize) -> &[u8]
+    ensures { λ r. ⌜ now r ≡ take n (now (column .entry)) ⌝ }
+{
+    if n <= column.len() {
+        &column[..n]
+    } else {
+        column
+    }
+}
+
+pub fn first16(column: &[u16], n: usize) -> &[u16]
+    ensures { λ r. ⌜ now r ≡ take n (now (column .entry)) ⌝ }
+{
+    if n <= column.len() {
+        &column[..n]
+    } else {
+        column
+    }
+}
+
+pub fn first32(column: &[u32], n: usize) -> &[u32]
+    ensures { λ r. ⌜ now r ≡ take n (now (column .entry)) ⌝ }
+{
+    if n <= column.len() {
+        &column[..n]
+    } else {
+        column
+    }
 }
 
 // Whether one of the lengths is above `most`.

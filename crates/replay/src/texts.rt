@@ -14,6 +14,9 @@ use records::Verdict;
 use records::cells::cell8;
 use records::cells::cell16;
 use records::cells::cell32;
+use records::cells::first8;
+use records::cells::first16;
+use records::cells::first32;
 use segment::RunAnswer;
 use segment::Segmenter;
 use segment::What;
@@ -366,27 +369,6 @@ fn most(cells: usize) -> usize
     ensures { λ r. ⌜ r ≤ 65535 ⌝ }
 {
     if cells < 65535 { cells } else { 65535 }
-}
-
-fn first8(column: &[u8], n: usize) -> &[u8] {
-    if n <= column.len() {
-        return &column[..n];
-    }
-    column
-}
-
-fn first16(column: &[u16], n: usize) -> &[u16] {
-    if n <= column.len() {
-        return &column[..n];
-    }
-    column
-}
-
-fn first32(column: &[u32], n: usize) -> &[u32] {
-    if n <= column.len() {
-        return &column[..n];
-    }
-    column
 }
 
 // The columns are as long as the text has items.
