@@ -1,24 +1,31 @@
 // A full run: every call's characters written to the lent columns.
 use crate::RunAnswer;
 use crate::calls::call;
+use crate::direct::direct;
+use crate::direct::is_direct;
+use crate::streams::MIDDLE;
 use crate::streams::SHORT;
 use crate::streams::count_of;
 use crate::streams::tokens_of;
+use crate::table::fast;
 use classes::Mode;
 use parse::Parse;
 use records::Parser;
 use records::Side;
 use records::Verdict;
+use records::cells::record_count;
 ghost use mathlib.Core.Path.{_≡_};
 ghost use mathlib.Core.List.{map};
 ghost use Prim.Native.Nat.{_≤_, min};
 ghost use lib.ListN.{length};
 ghost use lib.Seq.{sets};
-ghost use Rattle.records.specs.Text.{textOf};
+ghost use Rattle.records.specs.Text.{lent};
 ghost use Rattle.records.specs.declared.Verdict.the-variants.{Accepted, Refused};
 ghost use Rattle.tokens.specs.Tokens.{streamOf};
 ghost use Rattle.parse.specs.Cover.{pushed};
+ghost use Rattle.records.specs.Sound.{Sound};
 ghost use Rattle.segment.specs.Calls.{Streamed};
+ghost use Rattle.segment.specs.Seen.{Direct};
 ghost use Rattle.segment.specs.Runs.{callsOf, scalarIn, classIn, clusterIn, Ran, RanOn, Fits, Roomy};
 
 fn shorter(a: usize, b: usize) -> usize
@@ -81,9 +88,10 @@ fn write_all(
     requires { ⌜ Roomy (now text) (now oscalars) (now oclasses) (now oclusters) ⌝ }
     ensures { λ r. ⌜ Ran Accepted (callsOf parser mode (now (text .entry))) (now (oscalars .entry)) (now (oclasses .entry)) (now (oclusters .entry)) r (now (oscalars .exit)) (now (oclasses .exit)) (now (oclusters .exit)) ⌝ }
 {
-    let mut at: usize = 0;
-    let mut clusters: usize = 0;
-    let mut characters: usize = 0;
+    let s = fast(parser, mode, text, oscalars, oclasses, oclusters);
+    let mut at: usize = s.at;
+    let mut clusters: usize = s.clusters;
+    let mut characters: usize = s.characters;
     while at < text.len() {
         let p = call(parser, mode, text, at);
         write(
@@ -125,140 +133,159 @@ fn run_tokens(
 }
 
 // A run on the tokens that `out` has room for.
-fn run_in(
+fn run_within<'s, 'a>(
     parser: Parser,
     mode: Mode,
-    scalars: &[u32],
-    breaks: &[u8],
-    uses: &[u8],
-    myanmars: &[u8],
-    categories: &[u8],
-    words: &[u8],
-    semojis: &[u8],
-    memojis: &[u8],
-    cemojis: &[u8],
-    pictographs: &[u8],
-    selectors: &[u8],
-    decomposes: &[u8],
-    firsts: &[u16],
-    counts: &[u8],
-    pscalars: &[u32],
-    pbreaks: &[u8],
-    puses: &[u8],
-    pcategories: &[u8],
+    wides: &'s [&'a [u32]; 2],
+    bytes: &'s [&'a [u8]; 15],
+    firsts: &'a [u16],
     out: &mut [u64],
     oscalars: &mut [u32],
     oclasses: &mut [u8],
     oclusters: &mut [u16],
 ) -> RunAnswer
     requires { ⌜ length (now out) ≤ 12288 ⌝ }
-    ensures { λ r. ⌜ (length (streamOf mode parser (textOf (now (scalars .entry)) (now (breaks .entry)) (now (uses .entry)) (now (myanmars .entry)) (now (categories .entry)) (now (words .entry)) (now (semojis .entry)) (now (memojis .entry)) (now (cemojis .entry)) (now (pictographs .entry)) (now (selectors .entry)) (now (decomposes .entry)) (now (firsts .entry)) (now (counts .entry)) (now (pscalars .entry)) (now (pbreaks .entry)) (now (puses .entry)) (now (pcategories .entry)))) ≤ length (now (out .entry)) → RanOn parser mode (streamOf mode parser (textOf (now (scalars .entry)) (now (breaks .entry)) (now (uses .entry)) (now (myanmars .entry)) (now (categories .entry)) (now (words .entry)) (now (semojis .entry)) (now (memojis .entry)) (now (cemojis .entry)) (now (pictographs .entry)) (now (selectors .entry)) (now (decomposes .entry)) (now (firsts .entry)) (now (counts .entry)) (now (pscalars .entry)) (now (pbreaks .entry)) (now (puses .entry)) (now (pcategories .entry)))) (now (oscalars .entry)) (now (oclasses .entry)) (now (oclusters .entry)) r (now (oscalars .exit)) (now (oclasses .exit)) (now (oclusters .exit))) ⌝ }
+    ensures { λ r. ⌜ (length (streamOf mode parser (lent (wides .entry) (bytes .entry) (firsts .entry))) ≤ length (now (out .entry)) → RanOn parser mode (streamOf mode parser (lent (wides .entry) (bytes .entry) (firsts .entry))) (now (oscalars .entry)) (now (oclasses .entry)) (now (oclusters .entry)) r (now (oscalars .exit)) (now (oclasses .exit)) (now (oclusters .exit))) ⌝ }
 {
-    let n = tokens_of(
-        parser,
-        mode,
-        scalars,
-        breaks,
-        uses,
-        myanmars,
-        categories,
-        words,
-        semojis,
-        memojis,
-        cemojis,
-        pictographs,
-        selectors,
-        decomposes,
-        firsts,
-        counts,
-        pscalars,
-        pbreaks,
-        puses,
-        pcategories,
-        out,
-    );
+    let n = tokens_of(parser, mode, wides, bytes, firsts, out);
     run_tokens(parser, mode, &out[..n], oscalars, oclasses, oclusters)
 }
 
-pub(crate) fn run_accepted(
+// A run over an array that the tokens are put in.
+fn run_array<'s, 'a>(
     parser: Parser,
     mode: Mode,
-    scalars: &[u32],
-    breaks: &[u8],
-    uses: &[u8],
-    myanmars: &[u8],
-    categories: &[u8],
-    words: &[u8],
-    semojis: &[u8],
-    memojis: &[u8],
-    cemojis: &[u8],
-    pictographs: &[u8],
-    selectors: &[u8],
-    decomposes: &[u8],
-    firsts: &[u16],
-    counts: &[u8],
-    pscalars: &[u32],
-    pbreaks: &[u8],
-    puses: &[u8],
-    pcategories: &[u8],
+    wides: &'s [&'a [u32]; 2],
+    bytes: &'s [&'a [u8]; 15],
+    firsts: &'a [u16],
     oscalars: &mut [u32],
     oclasses: &mut [u8],
     oclusters: &mut [u16],
 ) -> RunAnswer
-    ensures { λ r. ⌜ (Streamed mode parser (textOf (now (scalars .entry)) (now (breaks .entry)) (now (uses .entry)) (now (myanmars .entry)) (now (categories .entry)) (now (words .entry)) (now (semojis .entry)) (now (memojis .entry)) (now (cemojis .entry)) (now (pictographs .entry)) (now (selectors .entry)) (now (decomposes .entry)) (now (firsts .entry)) (now (counts .entry)) (now (pscalars .entry)) (now (pbreaks .entry)) (now (puses .entry)) (now (pcategories .entry))) → RanOn parser mode (streamOf mode parser (textOf (now (scalars .entry)) (now (breaks .entry)) (now (uses .entry)) (now (myanmars .entry)) (now (categories .entry)) (now (words .entry)) (now (semojis .entry)) (now (memojis .entry)) (now (cemojis .entry)) (now (pictographs .entry)) (now (selectors .entry)) (now (decomposes .entry)) (now (firsts .entry)) (now (counts .entry)) (now (pscalars .entry)) (now (pbreaks .entry)) (now (puses .entry)) (now (pcategories .entry)))) (now (oscalars .entry)) (now (oclasses .entry)) (now (oclusters .entry)) r (now (oscalars .exit)) (now (oclasses .exit)) (now (oclusters .exit))) ⌝ }
+    ensures { λ r. ⌜ (Streamed mode parser (lent (wides .entry) (bytes .entry) (firsts .entry)) → RanOn parser mode (streamOf mode parser (lent (wides .entry) (bytes .entry) (firsts .entry))) (now (oscalars .entry)) (now (oclasses .entry)) (now (oclusters .entry)) r (now (oscalars .exit)) (now (oclasses .exit)) (now (oclusters .exit))) ⌝ }
 {
-    if count_of(parser, scalars, decomposes, counts) <= SHORT {
+    let count = count_of(parser, wides, bytes, firsts);
+    if count <= SHORT {
         let mut short = [0u64; 256];
-        return run_in(
+        return run_within(
             parser,
             mode,
-            scalars,
-            breaks,
-            uses,
-            myanmars,
-            categories,
-            words,
-            semojis,
-            memojis,
-            cemojis,
-            pictographs,
-            selectors,
-            decomposes,
+            wides,
+            bytes,
             firsts,
-            counts,
-            pscalars,
-            pbreaks,
-            puses,
-            pcategories,
             &mut short,
             oscalars,
             oclasses,
             oclusters,
         );
     }
+    if count <= MIDDLE {
+        let mut middle = [0u64; 2048];
+        return run_within(
+            parser,
+            mode,
+            wides,
+            bytes,
+            firsts,
+            &mut middle,
+            oscalars,
+            oclasses,
+            oclusters,
+        );
+    }
     let mut long = [0u64; 12288];
-    run_in(
+    run_within(
         parser,
         mode,
-        scalars,
-        breaks,
-        uses,
-        myanmars,
-        categories,
-        words,
-        semojis,
-        memojis,
-        cemojis,
-        pictographs,
-        selectors,
-        decomposes,
+        wides,
+        bytes,
         firsts,
-        counts,
-        pscalars,
-        pbreaks,
-        puses,
-        pcategories,
         &mut long,
+        oscalars,
+        oclasses,
+        oclusters,
+    )
+}
+
+// A run over the columns themselves. What the table leaves is run anew over an array.
+fn run_direct<'s, 'a>(
+    parser: Parser,
+    mode: Mode,
+    wides: &'s [&'a [u32]; 2],
+    bytes: &'s [&'a [u8]; 15],
+    firsts: &'a [u16],
+    oscalars: &mut [u32],
+    oclasses: &mut [u8],
+    oclusters: &mut [u16],
+) -> RunAnswer
+    requires { ⌜ Sound parser (lent wides bytes firsts) × Direct mode parser (lent wides bytes firsts) ⌝ }
+    ensures { λ r. ⌜ RanOn parser mode (streamOf mode parser (lent (wides .entry) (bytes .entry) (firsts .entry))) (now (oscalars .entry)) (now (oclasses .entry)) (now (oclusters .entry)) r (now (oscalars .exit)) (now (oclasses .exit)) (now (oclusters .exit)) ⌝ }
+{
+    let n = record_count(wides, bytes, firsts);
+    let room = shorter(oscalars.len(), shorter(oclasses.len(), oclusters.len()));
+    if room < 2 * n {
+        return RunAnswer::refused(9, Side::Neither, 0);
+    }
+    let s = direct(
+        parser,
+        mode,
+        wides,
+        bytes,
+        firsts,
+        oscalars,
+        oclasses,
+        oclusters,
+    );
+    if s.at < n {
+        return run_array(
+            parser,
+            mode,
+            wides,
+            bytes,
+            firsts,
+            oscalars,
+            oclasses,
+            oclusters,
+        );
+    }
+    RunAnswer {
+        verdict: Verdict::Accepted,
+        clusters: s.clusters,
+        characters: s.characters,
+    }
+}
+
+pub(crate) fn run_accepted<'s, 'a>(
+    parser: Parser,
+    mode: Mode,
+    wides: &'s [&'a [u32]; 2],
+    bytes: &'s [&'a [u8]; 15],
+    firsts: &'a [u16],
+    oscalars: &mut [u32],
+    oclasses: &mut [u8],
+    oclusters: &mut [u16],
+) -> RunAnswer
+    requires { ⌜ Sound parser (lent wides bytes firsts) ⌝ }
+    ensures { λ r. ⌜ RanOn parser mode (streamOf mode parser (lent (wides .entry) (bytes .entry) (firsts .entry))) (now (oscalars .entry)) (now (oclasses .entry)) (now (oclusters .entry)) r (now (oscalars .exit)) (now (oclasses .exit)) (now (oclusters .exit)) ⌝ }
+{
+    if is_direct(parser, mode, wides, bytes, firsts) {
+        return run_direct(
+            parser,
+            mode,
+            wides,
+            bytes,
+            firsts,
+            oscalars,
+            oclasses,
+            oclusters,
+        );
+    }
+    run_array(
+        parser,
+        mode,
+        wides,
+        bytes,
+        firsts,
         oscalars,
         oclasses,
         oclusters,
