@@ -42,9 +42,9 @@ each-all P n f g k = go (ltb k n) refl
 pub past : (xs : List ℕ) (k : ℕ) → length xs ≤ k → cell xs k ≡ 0
 past xs k h = List·getD-eq-default xs 0 h
 
-plain-zero : CleanScalar 0
+clean-zero : CleanScalar 0
 unfolding badScalar
-plain-zero = (refl, refl)
+clean-zero = (refl, refl)
 
 module _ (xs : List ℕ) (i : ℕ) where
   pub most-more : (m n : ℕ) → ((k : ℕ) → k < i → cell xs k ≤ m) → m ≤ n → cell xs i ≤ n → (k : ℕ) → k < i + 1 → cell xs k ≤ n
@@ -56,8 +56,8 @@ module _ (xs : List ℕ) (i : ℕ) where
   pub clean-more : (p o q : ℕ) → (p ≡ 0 → (k : ℕ) → k < i → CleanScalar (cell xs k)) → (o ≡ 0 → CleanScalar (cell xs i)) → p ≤ q → o ≤ q → q ≡ 0 → (k : ℕ) → k < i + 1 → CleanScalar (cell xs k)
   clean-more p o q f g l h e = each-more (λ k. CleanScalar (cell xs k)) i (f (omega arith)) (g (omega arith))
 
-  pub plain-all : (p : ℕ) → (p ≡ 0 → (k : ℕ) → k < i → CleanScalar (cell xs k)) → length xs ≤ i → p ≡ 0 → CleanScalars xs
-  plain-all p f l e = each-all (λ k. CleanScalar (cell xs k)) i (f e) (λ k d. let z : cell xs k ≡ 0 = past xs k (omega arith) in subst CleanScalar (sym z) plain-zero)
+  pub clean-all : (p : ℕ) → (p ≡ 0 → (k : ℕ) → k < i → CleanScalar (cell xs k)) → length xs ≤ i → p ≡ 0 → CleanScalars xs
+  clean-all p f l e = each-all (λ k. CleanScalar (cell xs k)) i (f e) (λ k d. let z : cell xs k ≡ 0 = past xs k (omega arith) in subst CleanScalar (sym z) clean-zero)
 
 module _ (xs ys : List ℕ) (i : ℕ) where
   pub end-more : (m n e : ℕ) → ((k : ℕ) → k < i → cell xs k + cell ys k ≤ m) → m ≤ n → e ≤ n → e ≡ cell xs i + cell ys i → (k : ℕ) → k < i + 1 → cell xs k + cell ys k ≤ n

@@ -95,7 +95,7 @@ fn ends_by(firsts: &[u16], counts: &[u8], parts: usize) -> bool
     at_most(most, parts)
 }
 
-// 0 for a plain scalar, else 1: one that is refused, or U+034F, which some classes bar. (A number, so that the loop below has no branch.)
+// 0 for a clean scalar, else 1: one that is refused, or U+034F, which some classes bar. (A number, so that the loop below has no branch.)
 fn oddness(x: u32) -> u32
     ensures { λ r. ⌜ (r ≡ 0 → CleanScalar x) ⌝ }
 {

@@ -1,42 +1,31 @@
 // The token stream: `Tokens` of src/text/cluster/complex.rs, over the lent columns. For simple and Myanmar a token is a record.
 mod pieces;
 
+use pieces::gives_none;
 use pieces::is_whole;
 use pieces::own_token;
 use pieces::piece;
 use pieces::pieces_at;
 use records::MOST;
 use records::cells::byte;
+use records::cells::cell8;
 use records::cells::record_count;
 ghost use mathlib.Core.Path.{_≡_};
-ghost use Prim.Native.Nat.{_-_, _<_, min};
-ghost use lib.ListN.{length, take, drop};
-ghost use Rattle.records.specs.Text.{column, lent};
-ghost use Rattle.records.specs.Refusals.{most};
-ghost use Rattle.tokens.specs.Tokens.{sourceOf, itself, splitIn, gather, fetchIn, countFrom};
+ghost use Prim.Native.Nat.{_-_, min};
+ghost use Rattle.records.specs.Text.{lent};
+ghost use Rattle.tokens.specs.Tokens.{recordTokens, splitTokens, Fills, fetchIn, countIn};
 
-// What a fetch finds: a token, its record, and the number of the record's next token; or the end of the records.
-pub enum Fetched {
-    Got {
-        token: u64,
-        record: usize,
-        next: usize,
-    },
-    Over,
-}
-
-// The tokens of the simple or the Myanmar parser, with the classes and the emoji marks of these columns, as many as there is room
-// for: each record is one. Cells past them keep their content.
+// The tokens of the simple or the Myanmar parser, with these classes and emoji marks, as many as there is room for: each record is
+// one. Cells past them keep their content.
 pub fn fill<'s, 'a>(
     wides: &'s [&'a [u32]; 2],
     bytes: &'s [&'a [u8]; 15],
     firsts: &'a [u16],
-    kinds: usize,
-    emojis: usize,
+    kinds: &'a [u8],
+    emojis: &'a [u8],
     out: &mut [u64],
 ) -> usize
-    requires { ⌜ (kinds < 15) × (emojis < 15) ⌝ }
-    ensures { λ r. ⌜ ((r ≡ min (length (lent (wides .entry) (bytes .entry) (firsts .entry) .records .scalars)) (length (now (out .entry)))) × (take r (now (out .exit)) ≡ take r (gather (itself (sourceOf (lent (wides .entry) (bytes .entry) (firsts .entry) .records) (column (now (bytes .entry)) kinds) (column (now (bytes .entry)) emojis))) 0 (length (lent (wides .entry) (bytes .entry) (firsts .entry) .records .scalars))))) × (drop r (now (out .exit)) ≡ drop r (now (out .entry))) ⌝ }
+    ensures { λ r. ⌜ Fills (recordTokens (lent (wides .entry) (bytes .entry) (firsts .entry)) (now (kinds .entry)) (now (emojis .entry))) r (now (out .entry)) (now (out .exit)) ⌝ }
 {
     let n = record_count(wides, bytes, firsts);
     let mut i: usize = 0;
@@ -44,39 +33,27 @@ pub fn fill<'s, 'a>(
         if out.len() <= i {
             return i;
         }
-        out[i] = own_token(wides, bytes, firsts, kinds, byte(bytes, emojis, i), i);
+        out[i] = own_token(wides, bytes, firsts, kinds, cell8(emojis, i), i);
         i += 1;
     }
     i
 }
 
-// Token k of record i, or the first one after it; a record that gives none is passed over.
-pub fn fetch<'s, 'a>(
-    khmer: bool,
-    wides: &'s [&'a [u32]; 2],
-    bytes: &'s [&'a [u8]; 15],
-    firsts: &'a [u16],
-    i: usize,
-    k: usize,
-) -> Fetched
-    ensures { λ r. ⌜ r ≡ fetchIn (length (lent (wides .entry) (bytes .entry) (firsts .entry) .records .scalars) - i) (splitIn khmer (lent (wides .entry) (bytes .entry) (firsts .entry))) i k ⌝ }
+// The first of n records, from record i on, that gives a token: "a marked record with no parts is passed over in the stream". The call
+// of itself is the last thing that it does, so that the compiler makes a loop of it.
+fn fetch(n: usize, decomposes: &[u8], counts: &[u8], i: usize) -> usize
+    ensures { λ r. ⌜ r ≡ fetchIn (n - i) (now (decomposes .entry)) (now (counts .entry)) i ⌝ }
 {
-    if i < record_count(wides, bytes, firsts) {
-        let n = pieces_at(khmer, wides, bytes, firsts, i);
-        if k < n {
-            let token = piece(khmer, wides, bytes, firsts, i, k);
-            return Fetched::Got {
-                token,
-                record: i,
-                next: k + 1,
-            };
+    if i < n {
+        if gives_none(cell8(decomposes, i), cell8(counts, i)) {
+            return fetch(n, decomposes, counts, i + 1);
         }
-        return fetch(khmer, wides, bytes, firsts, i + 1, 0);
+        return i;
     }
-    Fetched::Over
+    i
 }
 
-// The tokens of the complex parser, as many as there is room for.
+// The tokens of the complex parser, as many as there is room for. Most records are one token, which is looked at first.
 pub fn collect<'s, 'a>(
     khmer: bool,
     wides: &'s [&'a [u32]; 2],
@@ -84,28 +61,27 @@ pub fn collect<'s, 'a>(
     firsts: &'a [u16],
     out: &mut [u64],
 ) -> usize
-    ensures { λ r. ⌜ ((r ≡ min (length (gather (splitIn khmer (lent (wides .entry) (bytes .entry) (firsts .entry))) 0 (length (lent (wides .entry) (bytes .entry) (firsts .entry) .records .scalars)))) (length (now (out .entry)))) × (take r (now (out .exit)) ≡ take r (gather (splitIn khmer (lent (wides .entry) (bytes .entry) (firsts .entry))) 0 (length (lent (wides .entry) (bytes .entry) (firsts .entry) .records .scalars))))) × (drop r (now (out .exit)) ≡ drop r (now (out .entry))) ⌝ }
+    ensures { λ r. ⌜ Fills (splitTokens khmer (lent (wides .entry) (bytes .entry) (firsts .entry))) r (now (out .entry)) (now (out .exit)) ⌝ }
 {
     let n = record_count(wides, bytes, firsts);
     let mut filled: usize = 0;
-    let mut i: usize = 0;
+    let mut i = fetch(n, bytes[10], bytes[11], 0);
     let mut k: usize = 0;
     while i < n {
         if out.len() <= filled {
             return filled;
         }
-        if is_whole(khmer, wides, bytes, firsts, i, k) {
-            out[filled] = own_token(wides, bytes, firsts, 1, byte(bytes, 7, i), i);
+        if is_whole(khmer, wides, bytes, firsts, i) {
+            out[filled] = own_token(wides, bytes, firsts, bytes[1], byte(bytes, 7, i), i);
             filled += 1;
-            i += 1;
-            k = 0;
+            i = fetch(n, bytes[10], bytes[11], i + 1);
         } else {
-            if k < pieces_at(khmer, wides, bytes, firsts, i) {
-                out[filled] = piece(khmer, wides, bytes, firsts, i, k);
-                filled += 1;
-                k += 1;
-            } else {
-                i += 1;
+            let pieces = pieces_at(khmer, wides, bytes, firsts, i);
+            out[filled] = piece(khmer, wides, bytes, firsts, i, k);
+            filled += 1;
+            k += 1;
+            if pieces <= k {
+                i = fetch(n, bytes[10], bytes[11], i + 1);
                 k = 0;
             }
         }
@@ -120,7 +96,7 @@ pub fn count<'s, 'a>(
     bytes: &'s [&'a [u8]; 15],
     firsts: &'a [u16],
 ) -> usize
-    ensures { λ r. ⌜ r ≡ countFrom khmer (lent (wides .entry) (bytes .entry) (firsts .entry) .records .scalars) (lent (wides .entry) (bytes .entry) (firsts .entry) .records .decomposes) (lent (wides .entry) (bytes .entry) (firsts .entry) .records .counts) 0 (min (length (lent (wides .entry) (bytes .entry) (firsts .entry) .records .scalars)) most) ⌝ }
+    ensures { λ r. ⌜ r ≡ countIn khmer (lent (wides .entry) (bytes .entry) (firsts .entry)) ⌝ }
 {
     let n = at_most(record_count(wides, bytes, firsts), MOST);
     let mut sum: usize = 0;

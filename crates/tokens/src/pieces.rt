@@ -1,5 +1,6 @@
 // The tokens of one record.
 use records::cells::byte;
+use records::cells::cell8;
 use records::cells::cell16;
 use records::cells::wide;
 use records::is_sign;
@@ -7,11 +8,10 @@ ghost use mathlib.Core.Path.{_≡_};
 ghost use mathlib.Core.Bool.{true, _&&_};
 ghost use mathlib.Core.List.{[]};
 ghost use Prim.Native.Nat.{_<_};
-ghost use lib.ListN.{length, getD};
 ghost use Rattle.classes.specs.Scalar.{khmerSigns};
-ghost use Rattle.records.specs.Text.{cell, column, lent};
+ghost use Rattle.records.specs.Text.{lent};
 ghost use Rattle.records.specs.Refusals.{member};
-ghost use Rattle.tokens.specs.Tokens.{sourceOf, ownToken, partToken, splitIn, pieceCount, Unsplit};
+ghost use Rattle.tokens.specs.Tokens.{sourceOf, ownToken, partToken, pieceCount, piecesIn, givesNone, Whole, Piece};
 
 fn is_split_sign(khmer: bool, x: u32) -> bool
     ensures { λ r. ⌜ r ≡ (khmer && member khmerSigns x) ⌝ }
@@ -43,7 +43,7 @@ pub fn pieces_at<'s, 'a>(
     firsts: &'a [u16],
     i: usize,
 ) -> usize
-    ensures { λ r. ⌜ (r ≡ pieceCount khmer (cell (lent (wides .entry) (bytes .entry) (firsts .entry) .records .decomposes) i) (cell (lent (wides .entry) (bytes .entry) (firsts .entry) .records .scalars) i) (cell (lent (wides .entry) (bytes .entry) (firsts .entry) .records .counts) i)) × (r < 256) ⌝ }
+    ensures { λ r. ⌜ (r ≡ piecesIn khmer (lent (wides .entry) (bytes .entry) (firsts .entry)) i) × (r < 256) ⌝ }
 {
     piece_count(
         khmer,
@@ -53,25 +53,31 @@ pub fn pieces_at<'s, 'a>(
     )
 }
 
-// Whether record i stands at its first token, and is not split.
+// Whether record i gives one token, itself.
 pub fn is_whole<'s, 'a>(
     khmer: bool,
     wides: &'s [&'a [u32]; 2],
     bytes: &'s [&'a [u8]; 15],
     firsts: &'a [u16],
     i: usize,
-    k: usize,
 ) -> bool
-    ensures { λ r. ⌜ (r ≡ true → Unsplit khmer (cell (lent (wides .entry) (bytes .entry) (firsts .entry) .records .decomposes) i) (cell (lent (wides .entry) (bytes .entry) (firsts .entry) .records .scalars) i) k) ⌝ }
+    ensures { λ r. ⌜ (r ≡ true → Whole khmer (lent (wides .entry) (bytes .entry) (firsts .entry)) i) ⌝ }
 {
-    if k == 0 {
-        if byte(bytes, 10, i) == 1 {
-            return false;
-        }
-        if is_split_sign(khmer, wide(wides, 0, i)) {
-            return false;
-        }
-        return true;
+    if byte(bytes, 10, i) == 1 {
+        return false;
+    }
+    if is_split_sign(khmer, wide(wides, 0, i)) {
+        return false;
+    }
+    true
+}
+
+// Whether a record gives no token, by its cells.
+pub fn gives_none(decompose: u8, count: u8) -> bool
+    ensures { λ r. ⌜ r ≡ givesNone decompose count ⌝ }
+{
+    if decompose == 1 {
+        return count == 0;
     }
     false
 }
@@ -81,16 +87,15 @@ pub fn own_token<'s, 'a>(
     wides: &'s [&'a [u32]; 2],
     bytes: &'s [&'a [u8]; 15],
     firsts: &'a [u16],
-    kinds: usize,
+    kinds: &'a [u8],
     emoji: u8,
     i: usize,
 ) -> u64
-    requires { ⌜ kinds < 15 ⌝ }
-    ensures { λ r. ⌜ r ≡ ownToken (sourceOf (lent (wides .entry) (bytes .entry) (firsts .entry) .records) (column (now (bytes .entry)) kinds) []) emoji i ⌝ }
+    ensures { λ r. ⌜ r ≡ ownToken (sourceOf (lent (wides .entry) (bytes .entry) (firsts .entry) .records) (now (kinds .entry)) []) emoji i ⌝ }
 {
     token::pack(
         wide(wides, 0, i),
-        byte(bytes, kinds, i),
+        cell8(kinds, i),
         byte(bytes, 0, i),
         byte(bytes, 3, i),
         emoji,
@@ -130,7 +135,7 @@ pub fn piece<'s, 'a>(
     k: usize,
 ) -> u64
     requires { ⌜ k < 256 ⌝ }
-    ensures { λ r. ⌜ (k < length (splitIn khmer (lent (wides .entry) (bytes .entry) (firsts .entry)) i) → r ≡ getD (splitIn khmer (lent (wides .entry) (bytes .entry) (firsts .entry)) i) k 0) ⌝ }
+    ensures { λ r. ⌜ Piece khmer (lent (wides .entry) (bytes .entry) (firsts .entry)) i k r ⌝ }
 {
     let first = cell16(firsts, i) as usize;
     if byte(bytes, 10, i) == 1 {
@@ -140,7 +145,7 @@ pub fn piece<'s, 'a>(
         if k == 0 {
             return part_token(wides, bytes, firsts, first, i);
         }
-        return own_token(wides, bytes, firsts, 1, 0, i);
+        return own_token(wides, bytes, firsts, bytes[1], 0, i);
     }
-    own_token(wides, bytes, firsts, 1, byte(bytes, 7, i), i)
+    own_token(wides, bytes, firsts, bytes[1], byte(bytes, 7, i), i)
 }

@@ -1,6 +1,6 @@
 use Rattle.records.specs.Text.{cell}
 use Rattle.records.specs.Sweep.{CleanScalar}
-use Rattle.records.proofs.Passing.{clean-more, plain-all}
+use Rattle.records.proofs.Passing.{clean-more, clean-all}
 use Prim.Native.Nat.{ℕ, _-_, _<_}
 use mathlib.Core.Path.{_≡_}
 use native.Mathlib.Omega.{arith}
@@ -41,7 +41,7 @@ loop-again : tie.Need-loop-again Inv-loop μ-loop
 loop-again c = clean-more (c .before .before .before .before .before .before .args .column .now) _ _ _ _ (c .before .before .before .before .loop .inv) (c .before .oddness .ensures) (c .joined .ensures .0) (c .joined .ensures .1)
 
 returns : tie.Need-returns Inv-loop μ-loop
-returns c = λ e. plain-all (c .before .before .before .args .column .now) _ _ (c .before .loop .inv) (c .loop-test .left) (eqb-true _ _ e)
+returns c = λ e. clean-all (c .before .before .before .args .column .now) _ _ (c .before .loop .inv) (c .loop-test .left) (eqb-true _ _ e)
 
 pub clean-scalars-spec : {M : Type 1} → statement M
 clean-scalars-spec =
