@@ -10,6 +10,7 @@ use native.Mathlib.Nat.{eq-or-lt-of-le}
 use native.Mathlib.Omega.{arith}
 use lib.Dec.{eqb, ltb}
 use borrow.Author.Tests.{ltb-true, ltb-false}
+use lib.Bits.{bitOr, or-add-and, and-le-l, and-le-r}
 use lib.ListN.{length, getD, List·getD-eq-default}
 use denote.Ref.{RefT}
 use Rattle.classes.specs.Scalar.{CGJ}
@@ -39,6 +40,12 @@ each-all P n f g k = go (ltb k n) refl
     go true e = f k (ltb-true k n e)
     go false e = g k (ltb-false k n e)
 
+-- a loop that joins numbers, 0 where all is well
+pub joined-more : (P : ℕ → Type 0) (i p o q : ℕ) → (p ≡ 0 → (k : ℕ) → k < i → P k) → (o ≡ 0 → P i) → q ≡ bitOr p o → q ≡ 0 → (k : ℕ) → k < i + 1 → P k
+joined-more P i p o q f g j e =
+    let a = or-add-and p o in
+    each-more P i (f (omega (arith, and-le-r p o, j))) (g (omega (arith, and-le-l p o, j)))
+
 pub past : (xs : List ℕ) (k : ℕ) → length xs ≤ k → cell xs k ≡ 0
 past xs k h = List·getD-eq-default xs 0 h
 
@@ -52,9 +59,6 @@ module _ (xs : List ℕ) (i : ℕ) where
 
   pub most-all : (m : ℕ) → ((k : ℕ) → k < i → cell xs k ≤ m) → length xs ≤ i → AtMost xs m
   most-all m f l = each-all (λ k. cell xs k ≤ m) i f (λ k d. let z : cell xs k ≡ 0 = past xs k (omega arith) in omega arith)
-
-  pub clean-more : (p o q : ℕ) → (p ≡ 0 → (k : ℕ) → k < i → CleanScalar (cell xs k)) → (o ≡ 0 → CleanScalar (cell xs i)) → p ≤ q → o ≤ q → q ≡ 0 → (k : ℕ) → k < i + 1 → CleanScalar (cell xs k)
-  clean-more p o q f g l h e = each-more (λ k. CleanScalar (cell xs k)) i (f (omega arith)) (g (omega arith))
 
   pub clean-all : (p : ℕ) → (p ≡ 0 → (k : ℕ) → k < i → CleanScalar (cell xs k)) → length xs ≤ i → p ≡ 0 → CleanScalars xs
   clean-all p f l e = each-all (λ k. CleanScalar (cell xs k)) i (f e) (λ k d. let z : cell xs k ≡ 0 = past xs k (omega arith) in subst CleanScalar (sym z) clean-zero)

@@ -1,6 +1,7 @@
 // Reading the columns: a cell past the end is 0, so that no reader asks anything of its caller.
 ghost use mathlib.Core.Path.{_≡_};
 ghost use mathlib.Core.Bool.{cond, _||_};
+ghost use lib.Bits.{bitOr};
 ghost use lib.Dec.{leb, ltb};
 ghost use lib.ListN.{length, take};
 ghost use Prim.Native.Nat.{_<_};
@@ -54,6 +55,13 @@ pub fn record_count<'s, 'a>(
     ensures { λ r. ⌜ (r ≡ length (lent (wides .entry) (bytes .entry) (firsts .entry) .records .scalars)) × (r < 0x10000000000000000) ⌝ }
 {
     length32(wides[0])
+}
+
+// A number that is 0 only where both are: a loop that joins numbers has no branch.
+pub fn joined(a: u32, b: u32) -> u32
+    ensures { λ r. ⌜ r ≡ bitOr a b ⌝ }
+{
+    a | b
 }
 
 // The first n cells, or the whole column where it has fewer.

@@ -1,4 +1,5 @@
 // The check by columns: whether nothing but a sign can be refused. A text that fails here is judged record by record.
+use crate::cells::joined;
 use crate::cells::length32;
 use crate::judge::bad_scalar;
 use classes::category;
@@ -46,12 +47,6 @@ fn larger32(a: u32, b: u32) -> u32
     ensures { λ r. ⌜ (a ≤ r) × (b ≤ r) ⌝ }
 {
     if a < b { b } else { a }
-}
-
-fn joined(a: u32, b: u32) -> u32
-    ensures { λ r. ⌜ (a ≤ r) × (b ≤ r) ⌝ }
-{
-    a | b
 }
 
 // No cell is above this.

@@ -1,11 +1,12 @@
--- The loop over a table, as its code has it. Assumes nothing.
+-- The loops over a table, as their code has them: what each turn keeps, and that they end. Assumes nothing.
 use Prim.Native.Nat.{ℕ, zero, suc, _+_, _-_, _*_, _/_, _%_, _<_, _≤_}
 use mathlib.Core.Path.{_≡_, refl, sym, _∙_, ap, subst}
 use mathlib.Core.Bool.{Bool, true, false, cond}
-use mathlib.Core.List.{List, [], _∷_}
+use mathlib.Core.List.{List}
 use native.Mathlib.Omega.{arith}
 use lib.Dec.{eqb, ltb}
 use lib.ListN.{length, getD, set, length-set}
+use denote.Ref.{RefT, now}
 use borrow.Author.Tests.{lt-ltb, le-ltb, eq-eqb, ne-eqb, ltb-true, ltb-false, eqb-true, eqb-false}
 use Rattle.classes.specs.Shape.{shapeCode}
 use Rattle.classes.specs.declared.Mode.{Mode}
@@ -15,14 +16,17 @@ use Rattle.records.specs.declared.Parser.{Parser}
 use Rattle.records.specs.declared.Parser.the-variants.{Simple, Myanmar, Complex, Khmer}
 use Rattle.parse.specs.State.{tokenAt, filledAt}
 use Rattle.parse.specs.Rule.{Rule, skip}
-use Rattle.parse.proofs.Loop.{by-test}
+use Rattle.parse.proofs.Loop.{false-true, by-test, both}
+use Rattle.tables.specs.Symbols.{indexOf, rowsOf, tableOf, cellAt, Regular}
+use Rattle.tables.proofs.Cells.{shapeAt, code-at, okay}
 use Rattle.segment.specs.Calls.{joins}
 use Rattle.segment.specs.Runs.{Roomy}
 use Rattle.segment.specs.Standing.{Running}
+use Rattle.segment.specs.Going.{started, goesOn, doneBy, givenUp, stopOf, backOf, refilled, overed, noted, written, turned, putBy, Wrote, Writable}
+use Rattle.segment.specs.declared.going.Going.{Going}
+use Rattle.segment.specs.declared.going.Stand.{Stand}
 use Rattle.segment.proofs.Turns.{run-starts}
-use Rattle.segment.specs.Machine.{indexOf, rowsOf, tableOf, cellAt, stopOf, backOf, Regular}
-use Rattle.segment.proofs.Turn.{Between, Next, Put, After}
-use Rattle.segment.proofs.Cells.{shapeAt, code-at, decodedBy, okay}
+use Rattle.segment.proofs.Turn.{Next, Put, After}
 use Rattle.segment.proofs.TableLaws.{answerOf, sampleOf, rulesOf, decoded, okay-class, okay-row, okay-inside, Stands, turns, turn-okay}
 
 rows-some : (parser : Parser) → 0 < rowsOf parser
@@ -32,21 +36,53 @@ rows-some Myanmar = omega arith
 rows-some Complex = omega arith
 rows-some Khmer = omega arith
 
+rows-most : (parser : Parser) → rowsOf parser ≤ 64
+unfolding rowsOf
+rows-most Simple = omega arith
+rows-most Myanmar = omega arith
+rows-most Complex = omega arith
+rows-most Khmer = omega arith
+
+-- what a turn has looked up: the cell of the current token, of a cluster that is not full
+pub record Looked (parser : Parser) (mode : Mode) (text : List ℕ) (g : Going) (v x : ℕ) : Type 0 where
+  pub inside : g .at < length text
+  pub unfilled : g .characters ≡ g .stop → ⊥
+  pub cell : v ≡ cellAt (joins parser) (tableOf parser) (scalarOf (tokenAt text (g .at))) (indexOf parser mode text (g .at) (g .row)) (g .row)
+  pub scalar : x ≡ scalarOf (tokenAt text (g .at))
+
+pub looked-up : (parser : Parser) (mode : Mode) (text : List ℕ) (g : Going) (v x t : ℕ) (j full : Bool) (table : List ℕ) (index : ℕ)
+    → g .at < length text → full ≡ eqb (g .characters) (g .stop) → full ≡ false → t ≡ tokenAt text (g .at) → x ≡ scalarOf t
+    → v ≡ cellAt j table x index (g .row) → j ≡ joins parser → table ≡ tableOf parser → index ≡ indexOf parser mode text (g .at) (g .row) → Looked parser mode text g v x
+looked-up parser mode text g v x t j full table index h ef f et ex ev ej eb ei = record {
+  inside = h;
+  unfilled = eqb-false (g .characters) (g .stop) (sym ef ∙ f);
+  cell = ev ∙ ap (λ j. cellAt j table x index (g .row)) ej ∙ ap (λ t. cellAt (joins parser) t x index (g .row)) eb
+      ∙ ap (λ x. cellAt (joins parser) (tableOf parser) x index (g .row)) (ex ∙ ap scalarOf et) ∙ ap (λ s. cellAt (joins parser) (tableOf parser) (scalarOf (tokenAt text (g .at))) s (g .row)) ei;
+  scalar = ex ∙ ap scalarOf et;
+}
+
+abbrev standing : Going → Stand
+standing g = record { at = g .at; clusters = g .clusters; characters = g .characters }
+
 module _ (parser : Parser) (mode : Mode) (text scalars₀ classes₀ clusters₀ : List ℕ) (roomy : Roomy text scalars₀ classes₀ clusters₀) (regular : Regular parser text) where
-  pub record Going (row : ℕ) (scalars classes clusters : List ℕ) (i num stop o : ℕ) : Type 0 where
-    pub row-in : row < rowsOf parser
-    pub inside : i ≤ length text
-    pub low : o ≤ 2 * i
-    pub few : num ≤ i
+  abbrev R : List ℕ → List ℕ → List ℕ → ℕ → ℕ → ℕ → Type 0
+  R scalars classes clusters i num o = Running parser mode text scalars₀ classes₀ clusters₀ scalars classes clusters i num o
+
+  -- a full cluster stands at the place that its last token leaves, any other is what its row says
+  pub record Goes (g : Going) (scalars classes clusters : List ℕ) : Type 0 where
+    pub row-in : g .row < rowsOf parser
+    pub inside : g .at ≤ length text
+    pub low : g .characters ≤ 2 * g .at
+    pub few : g .clusters ≤ g .at
     pub scalar : length scalars ≡ length scalars₀
     pub class : length classes ≡ length classes₀
     pub cluster : length clusters ≡ length clusters₀
-    pub begun : o ≡ stop → 1 ≤ i
-    pub filled : o ≡ stop → Running parser mode text scalars₀ classes₀ clusters₀ scalars classes clusters (backOf mode i) num o
-    pub stands : (o ≡ stop → ⊥) → Stands parser mode text scalars₀ classes₀ clusters₀ roomy regular row scalars classes clusters i num stop o
+    pub begun : g .characters ≡ g .stop → 1 ≤ g .at
+    pub filled : g .characters ≡ g .stop → R scalars classes clusters (backOf mode (g .at)) (g .clusters) (g .characters)
+    pub stands : (g .characters ≡ g .stop → ⊥) → Stands parser mode text scalars₀ classes₀ clusters₀ roomy regular (g .row) scalars classes clusters (g .at) (g .clusters) (g .stop) (g .characters)
 
-  pub starts : Going 0 scalars₀ classes₀ clusters₀ 0 0 32 0
-  starts = record {
+  pub goes-start : Goes started scalars₀ classes₀ clusters₀
+  goes-start = record {
     row-in = rows-some parser;
     inside = omega arith;
     low = omega arith;
@@ -59,9 +95,6 @@ module _ (parser : Parser) (mode : Mode) (text scalars₀ classes₀ clusters₀
     stands = λ e. run-starts parser mode text scalars₀ classes₀ clusters₀;
   }
 
-  abbrev R : List ℕ → List ℕ → List ℕ → ℕ → ℕ → ℕ → Type 0
-  R scalars classes clusters i num o = Running parser mode text scalars₀ classes₀ clusters₀ scalars classes clusters i num o
-
   at-end : (row : ℕ) (scalars classes clusters : List ℕ) (i num stop o : ℕ) → length text ≤ i → Stands parser mode text scalars₀ classes₀ clusters₀ roomy regular row scalars classes clusters i num stop o → R scalars classes clusters i num o
   at-end zero scalars classes clusters i num stop o h s = s
   at-end (suc r) scalars classes clusters i num stop o h s = s .1 h
@@ -73,122 +106,220 @@ module _ (parser : Parser) (mode : Mode) (text scalars₀ classes₀ clusters₀
   at-row zero scalars classes clusters i num stop o h s = absurd (omega arith)
   at-row (suc r) scalars classes clusters i num stop o h s = let e : suc r - 1 ≡ r = omega arith in subst (λ k. N (getD (rulesOf parser) k skip) scalars classes clusters i num stop o) e s
 
-  module _ (row : ℕ) (scalars classes clusters : List ℕ) (i num stop o : ℕ) (g : Going row scalars classes clusters i num stop o) where
-    pub ends : length text ≤ i → (o ≡ stop → ⊥) → R scalars classes clusters i num o
-    ends h f = at-end row scalars classes clusters i num stop o h (g .stands f)
-
+  module _ (g : Going) (scalars classes clusters : List ℕ) (w : Goes g scalars classes clusters) where
     -- a full cluster, and on from its place
-    pub refills : (i′ : ℕ) → i′ ≡ backOf mode i → o ≡ stop → Going 0 scalars classes clusters i′ num (o + 32) o
-    refills i′ e f = let b : R scalars classes clusters i′ num o = subst (λ j. R scalars classes clusters j num o) (sym e) (g .filled f) in record {
+    refilling : g .characters ≡ g .stop → Goes (refilled mode g) scalars classes clusters
+    refilling f = let b = w .filled f in record {
       row-in = rows-some parser;
       inside = b .inside;
       low = b .room;
       few = b .few;
-      scalar = g .scalar;
-      class = g .class;
-      cluster = g .cluster;
+      scalar = w .scalar;
+      class = w .class;
+      cluster = w .cluster;
       begun = λ z. absurd (omega (arith, z));
       filled = λ z. absurd (omega (arith, z));
       stands = λ z. b;
     }
 
-    pub stands-at : (i′ : ℕ) → i′ ≡ backOf mode i → o ≡ stop → R scalars classes clusters i′ num o
-    stands-at i′ e f = subst (λ j. R scalars classes clusters j num o) (sym e) (g .filled f)
+    pub goes-refill : (r : Going) → g .characters ≡ g .stop → r ≡ refilled mode g → Goes r scalars classes clusters
+    goes-refill r f e = subst (λ (r : Going). Goes r scalars classes clusters) (sym e) (refilling f)
 
-    module _ (h : i < length text) (on : o ≡ stop → ⊥) (v : ℕ) (e : v ≡ cellAt (joins parser) (tableOf parser) (scalarOf (tokenAt text i)) (indexOf parser mode text i row) row) where
-      pub good : true ≡ okay (rowsOf parser) v
-      good = turn-okay parser mode text scalars₀ classes₀ clusters₀ roomy regular scalars classes clusters i num stop o h row (g .row-in) ∙ ap (okay (rowsOf parser)) (sym e)
+    ended : goesOn g (length text) ≡ false → R scalars classes clusters (g .at) (g .clusters) (g .characters)
+    ended e =
+        by-test (eqb (g .characters) (g .stop))
+        (λ z. absurd (false-true (sym e ∙ ap (λ b. cond b true (ltb (g .at) (length text))) z)))
+        (λ z. at-end (g .row) scalars classes clusters (g .at) (g .clusters) (g .stop) (g .characters)
+        (ltb-false (g .at) (length text) (ap (λ b. cond b true (ltb (g .at) (length text))) (sym z) ∙ e))
+        (w .stands (eqb-false (g .characters) (g .stop) z)))
 
-      after : After parser mode text scalars₀ classes₀ clusters₀ roomy (answerOf parser mode text) (sampleOf parser mode text) (decoded parser mode text v) scalars classes clusters i num stop o
-      after = subst (λ v. After parser mode text scalars₀ classes₀ clusters₀ roomy (answerOf parser mode text) (sampleOf parser mode text) (decoded parser mode text v) scalars classes clusters i num stop o) (sym e)
-          (turns parser mode text scalars₀ classes₀ clusters₀ roomy regular scalars classes clusters i num stop o h row (g .row-in) (g .stands on))
+    pub goes-end : (s : Stand) (n : ℕ) (b : Bool) → n ≡ length text → b ≡ goesOn g n → b ≡ false → s ≡ standing g → R scalars classes clusters (s .at) (s .clusters) (s .characters)
+    goes-end s n b en eb f e = subst (λ (s : Stand). R scalars classes clusters (s .at) (s .clusters) (s .characters)) (sym e) (ended (ap (goesOn g) (sym en) ∙ sym eb ∙ f))
 
-      pub leaves-here : v / 16 % 4 ≡ 3 → R scalars classes clusters i num o
+    pub goes-row : g .row < 64
+    goes-row = omega (arith, w .row-in, rows-most parser)
+
+    module _ (h : g .at < length text) where
+      pub goes-room : Writable g scalars classes clusters
+      goes-room = record {
+        at = omega (arith, roomy .short);
+        few = omega (arith, w .few, roomy .short);
+        characters = omega (arith, w .low, roomy .short);
+        scalar = omega (arith, w .low, w .scalar, roomy .scalar);
+        class = omega (arith, w .low, w .class, roomy .class);
+        cluster = omega (arith, w .low, w .cluster, roomy .cluster);
+      }
+
+    module _ (v x : ℕ) (looked : Looked parser mode text g v x) where
+      h : g .at < length text
+      h = looked .inside
+
+      on : g .characters ≡ g .stop → ⊥
+      on = looked .unfilled
+
+      abbrev A : ℕ → Type 0
+      A v = After parser mode text scalars₀ classes₀ clusters₀ roomy (answerOf parser mode text) (sampleOf parser mode text) (decoded parser mode text v) scalars classes clusters (g .at) (g .clusters) (g .stop) (g .characters)
+
+      good : true ≡ okay (rowsOf parser) v
+      good = turn-okay parser mode text scalars₀ classes₀ clusters₀ roomy regular scalars classes clusters (g .at) (g .clusters) (g .stop) (g .characters) h (g .row) (w .row-in) ∙ ap (okay (rowsOf parser)) (sym (looked .cell))
+
+      after : A v
+      after = subst A (sym (looked .cell)) (turns parser mode text scalars₀ classes₀ clusters₀ roomy regular scalars classes clusters (g .at) (g .clusters) (g .stop) (g .characters) h (g .row) (w .row-in) (w .stands on))
+
+      leaves : doneBy v ≡ 3 → R scalars classes clusters (g .at) (g .clusters) (g .characters)
       unfolding After
-      leaves-here w = rw (eq-eqb (v / 16 % 4) 3 w) at after
+      leaves z = rw (eq-eqb (doneBy v) 3 z) at after
 
-      pub overs-here : v / 16 % 4 ≡ 3 → Going 0 scalars classes clusters i num stop o
-      overs-here w = let b = leaves-here w in record {
+      -- the table gives the cluster up
+      pub goes-leave : (s : Stand) (b : Bool) → b ≡ givenUp v (g .row) → b ≡ true → s ≡ standing g → R scalars classes clusters (s .at) (s .clusters) (s .characters)
+      goes-leave s b eb t e = subst (λ (s : Stand). R scalars classes clusters (s .at) (s .clusters) (s .characters)) (sym e) (leaves (eqb-true (doneBy v) 3 (both (eqb (doneBy v) 3) _ (sym eb ∙ t) .0)))
+
+      overs : doneBy v ≡ 3 → Goes (overed g) scalars classes clusters
+      overs z = let b = leaves z in record {
         row-in = rows-some parser;
         inside = b .inside;
         low = b .room;
         few = b .few;
-        scalar = g .scalar;
-        class = g .class;
-        cluster = g .cluster;
+        scalar = w .scalar;
+        class = w .class;
+        cluster = w .cluster;
         begun = λ z. absurd (on z);
         filled = λ z. absurd (on z);
         stands = λ z. b;
       }
 
-      pub notes-here : v / 16 % 4 ≡ 2 → Going (v / 64) scalars classes clusters (i + 1) num stop o
+      notes : (doneBy v ≡ 3 → ⊥) → doneBy v ≡ 2 → Goes (noted g v) scalars classes clusters
       unfolding After
-      notes-here w = record {
+      notes n3 z = record {
         row-in = okay-row (rowsOf parser) v good;
         inside = omega arith;
-        low = omega (arith, g .low);
-        few = omega (arith, g .few);
-        scalar = g .scalar;
-        class = g .class;
-        cluster = g .cluster;
+        low = omega (arith, w .low);
+        few = omega (arith, w .few);
+        scalar = w .scalar;
+        class = w .class;
+        cluster = w .cluster;
         begun = λ z. absurd (on z);
         filled = λ z. absurd (on z);
-        stands = λ z. at-row (v / 64) scalars classes clusters (i + 1) num stop o (okay-inside (rowsOf parser) v good (λ z. omega (arith, z, w))) (rw (ne-eqb (v / 16 % 4) 3 (λ z. omega (arith, z, w)), eq-eqb (v / 16 % 4) 2 w) at after);
+        stands = λ y. at-row (v / 64) scalars classes clusters (g .at + 1) (g .clusters) (g .stop) (g .characters) (okay-inside (rowsOf parser) v good n3) (rw (ne-eqb (doneBy v) 3 n3, eq-eqb (doneBy v) 2 z) at after);
       }
 
-      module _ (n3 : v / 16 % 4 ≡ 3 → ⊥) (n2 : v / 16 % 4 ≡ 2 → ⊥) where
+      module _ (n3 : doneBy v ≡ 3 → ⊥) (n2 : doneBy v ≡ 2 → ⊥) where
         abbrev P : ℕ → ℕ → Type 0
-        P num stop = Put parser mode text scalars₀ classes₀ clusters₀ roomy (answerOf parser mode text) (sampleOf parser mode text) (shapeAt (v % 16)) (getD (rulesOf parser) (v / 64 - 1) skip) scalars classes clusters i num stop o
+        P num stop = Put parser mode text scalars₀ classes₀ clusters₀ roomy (answerOf parser mode text) (sampleOf parser mode text) (shapeAt (v % 16)) (getD (rulesOf parser) (v / 64 - 1) skip) scalars classes clusters (g .at) num stop (g .characters)
 
-        writes : P (num + v / 16 % 4) (stopOf (v / 16 % 4) o stop)
+        puts : P (g .clusters + doneBy v) (stopOf (doneBy v) (g .characters) (g .stop))
         unfolding After stopOf
-        writes = by-test (eqb (v / 16 % 4) 1)
-            (λ b. let z : v / 16 % 4 ≡ 1 = eqb-true (v / 16 % 4) 1 b in
-            subst (λ x. P (num + x) (cond (eqb (v / 16 % 4) 1) (o + 32) stop)) (sym z)
-            (subst (λ x. P (num + 1) (cond x (o + 32) stop)) (sym b)
-            (rw (ne-eqb (v / 16 % 4) 3 n3, ne-eqb (v / 16 % 4) 2 n2, b) at after)))
-            (λ b. let z : v / 16 % 4 ≡ 0 = omega (arith, n3, n2, eqb-false (v / 16 % 4) 1 b) in
-            let y : num + v / 16 % 4 ≡ num = omega arith in
-            subst (λ x. P x (cond (eqb (v / 16 % 4) 1) (o + 32) stop)) (sym y)
-            (subst (λ x. P num (cond x (o + 32) stop)) (sym b)
-            (rw (ne-eqb (v / 16 % 4) 3 n3, ne-eqb (v / 16 % 4) 2 n2, b) at after)))
+        puts = by-test (eqb (doneBy v) 1)
+            (λ b. let z : doneBy v ≡ 1 = eqb-true (doneBy v) 1 b in
+            subst (λ x. P (g .clusters + x) (cond (eqb (doneBy v) 1) (g .characters + 32) (g .stop))) (sym z)
+            (subst (λ x. P (g .clusters + 1) (cond x (g .characters + 32) (g .stop))) (sym b)
+            (rw (ne-eqb (doneBy v) 3 n3, ne-eqb (doneBy v) 2 n2, b) at after)))
+            (λ b. let z : doneBy v ≡ 0 = omega (arith, n3, n2, eqb-false (doneBy v) 1 b) in
+            let y : g .clusters + doneBy v ≡ g .clusters = omega arith in
+            subst (λ x. P x (cond (eqb (doneBy v) 1) (g .characters + 32) (g .stop))) (sym y)
+            (subst (λ x. P (g .clusters) (cond x (g .characters + 32) (g .stop))) (sym b)
+            (rw (ne-eqb (doneBy v) 3 n3, ne-eqb (doneBy v) 2 n2, b) at after)))
 
         class-same : shapeCode (shapeAt (v % 16)) ≡ v % 16
         class-same = code-at (v % 16) (okay-class (rowsOf parser) v good)
 
-        abbrev num′ : ℕ
-        num′ = num + v / 16 % 4
-
-        abbrev stop′ : ℕ
-        stop′ = stopOf (v / 16 % 4) o stop
-
-        full-place : (m : Mode) → filledAt m (length text) i ≡ backOf m (i + 1)
+        full-place : (m : Mode) → filledAt m (length text) (g .at) ≡ backOf m (g .at + 1)
         unfolding backOf
         full-place Crate = omega arith
-        full-place Whole = ap (λ b. cond b (i + 1) i) (lt-ltb i (length text) h)
+        full-place Whole = ap (λ b. cond b (g .at + 1) (g .at)) (lt-ltb (g .at) (length text) h)
 
-        one-at-most : v / 16 % 4 ≤ 1
+        one-at-most : doneBy v ≤ 1
         one-at-most = omega (arith, n3, n2)
 
-        puts-here : Going (v / 64) (set scalars o (scalarOf (tokenAt text i))) (set classes o (v % 16)) (set clusters o (num′ - 1)) (i + 1) num′ stop′ (o + 1)
-        puts-here = record {
+        abbrev scalars′ : List ℕ
+        scalars′ = set scalars (g .characters) (scalarOf (tokenAt text (g .at)))
+
+        abbrev clusters′ : List ℕ
+        clusters′ = set clusters (g .characters) (g .clusters + doneBy v - 1)
+
+        writes : Goes (written g v) scalars′ (set classes (g .characters) (v % 16)) clusters′
+        writes = record {
           row-in = okay-row (rowsOf parser) v good;
           inside = omega arith;
-          low = omega (arith, g .low);
-          few = omega (arith, g .few, one-at-most);
-          scalar = length-set scalars o _ ∙ g .scalar;
-          class = length-set classes o _ ∙ g .class;
-          cluster = length-set clusters o _ ∙ g .cluster;
+          low = omega (arith, w .low);
+          few = omega (arith, w .few, one-at-most);
+          scalar = length-set scalars (g .characters) _ ∙ w .scalar;
+          class = length-set classes (g .characters) _ ∙ w .class;
+          cluster = length-set clusters (g .characters) _ ∙ w .cluster;
           begun = λ z. omega arith;
-          filled = λ z. subst (λ j. R (set scalars o (scalarOf (tokenAt text i))) (set classes o (v % 16)) (set clusters o (num′ - 1)) j num′ (o + 1)) (full-place mode)
-              (subst (λ c. R (set scalars o (scalarOf (tokenAt text i))) (set classes o c) (set clusters o (num′ - 1)) (filledAt mode (length text) i) num′ (o + 1)) class-same (writes .0 z));
-          stands = λ z. at-row (v / 64) _ _ _ (i + 1) num′ stop′ (o + 1) (okay-inside (rowsOf parser) v good n3)
-              (subst (λ c. N (getD (rulesOf parser) (v / 64 - 1) skip) (set scalars o (scalarOf (tokenAt text i))) (set classes o c) (set clusters o (num′ - 1)) (i + 1) num′ stop′ (o + 1)) class-same (writes .1 z));
+          filled = λ z. subst (λ j. R scalars′ (set classes (g .characters) (v % 16)) clusters′ j (g .clusters + doneBy v) (g .characters + 1)) (full-place mode)
+              (subst (λ c. R scalars′ (set classes (g .characters) c) clusters′ (filledAt mode (length text) (g .at)) (g .clusters + doneBy v) (g .characters + 1)) class-same (puts .0 z));
+          stands = λ z. at-row (v / 64) _ _ _ (g .at + 1) (g .clusters + doneBy v) (stopOf (doneBy v) (g .characters) (g .stop)) (g .characters + 1) (okay-inside (rowsOf parser) v good n3)
+              (subst (λ c. N (getD (rulesOf parser) (v / 64 - 1) skip) scalars′ (set classes (g .characters) c) clusters′ (g .at + 1) (g .clusters + doneBy v) (stopOf (doneBy v) (g .characters) (g .stop)) (g .characters + 1)) class-same (puts .1 z));
         }
 
-        -- with the values as the code has them
-        pub puts-as : (x nr st : ℕ) → x ≡ scalarOf (tokenAt text i) → nr ≡ num′ - 1 → st ≡ stop′ → Going (v / 64) (set scalars o x) (set classes o (v % 16)) (set clusters o nr) (i + 1) num′ st (o + 1)
-        puts-as x nr st ex en es =
-            subst (λ x. Going (v / 64) (set scalars o x) (set classes o (v % 16)) (set clusters o nr) (i + 1) num′ st (o + 1)) (sym ex)
-            (subst (λ nr. Going (v / 64) (set scalars o (scalarOf (tokenAt text i))) (set classes o (v % 16)) (set clusters o nr) (i + 1) num′ st (o + 1)) (sym en)
-            (subst (λ st. Going (v / 64) (set scalars o (scalarOf (tokenAt text i))) (set classes o (v % 16)) (set clusters o (num′ - 1)) (i + 1) num′ st (o + 1)) (sym es) puts-here))
+      -- whatever the cell is
+      turning : Goes (turned g v) (putBy v (g .characters) (scalarOf (tokenAt text (g .at))) scalars) (putBy v (g .characters) (v % 16) classes) (putBy v (g .characters) (g .clusters + doneBy v - 1) clusters)
+      unfolding turned putBy
+      turning = by-test (eqb (doneBy v) 3)
+          (λ a. rw a (overs (eqb-true (doneBy v) 3 a)))
+          (λ a. by-test (eqb (doneBy v) 2)
+          (λ b. rw (a, b) (notes (eqb-false (doneBy v) 3 a) (eqb-true (doneBy v) 2 b)))
+          (λ b. rw (a, b) (writes (eqb-false (doneBy v) 3 a) (eqb-false (doneBy v) 2 b))))
+
+      -- with the values as the code has them
+      pub goes-turn : (r : Going) (os oc on os′ oc′ on′ : RefT (List ℕ)) → now os ≡ scalars → now oc ≡ classes → now on ≡ clusters → r ≡ turned g v → Wrote g v x os oc on os′ oc′ on′ → Goes r (now os′) (now oc′) (now on′)
+      goes-turn r os oc on os′ oc′ on′ es ec en er u =
+          subst (λ (r : Going). Goes r (now os′) (now oc′) (now on′)) (sym er)
+          (subst (λ l. Goes (turned g v) l (now oc′) (now on′)) (sym (u .scalar ∙ ap (λ l. putBy v (g .characters) x l) es ∙ ap (λ x. putBy v (g .characters) x scalars) (looked .scalar)))
+          (subst (λ l. Goes (turned g v) (putBy v (g .characters) (scalarOf (tokenAt text (g .at))) scalars) l (now on′)) (sym (u .class ∙ ap (putBy v (g .characters) (v % 16)) ec))
+          (subst (λ l. Goes (turned g v) (putBy v (g .characters) (scalarOf (tokenAt text (g .at))) scalars) (putBy v (g .characters) (v % 16) classes) l) (sym (u .cluster ∙ ap (putBy v (g .characters) (g .clusters + doneBy v - 1)) en)) turning)))
+
+-- the measure: tokens left, cells left, whether the cluster is full, whether one is under way
+
+abbrev fullness : ℕ → ℕ → ℕ
+fullness o stop = cond (eqb o stop) 3 0
+
+abbrev underway : ℕ → ℕ
+underway row = cond (ltb 0 row) 1 0
+
+unfoldable pub left : ℕ → Going → ℕ
+left n g = 2 * (n - g .at) + 4 * (2 * n - g .characters) + fullness (g .characters) (g .stop) + underway (g .row)
+
+underway-most : (row : ℕ) → underway row ≤ 1
+underway-most row = by-test (ltb 0 row) (λ e. rw e (omega arith)) (λ e. rw e (omega arith))
+
+fullness-most : (o stop : ℕ) → fullness o stop ≤ 3
+fullness-most o stop = by-test (eqb o stop) (λ e. rw e (omega arith)) (λ e. rw e (omega arith))
+
+back-up : (m : Mode) (i : ℕ) → i ≤ backOf m i + 1
+unfolding backOf
+back-up Crate i = omega arith
+back-up Whole i = omega arith
+
+-- a full cluster, as the code finds it
+pub is-filled : (g : Going) (b : Bool) → b ≡ eqb (g .characters) (g .stop) → b ≡ true → g .characters ≡ g .stop
+is-filled g b e t = eqb-true (g .characters) (g .stop) (sym e ∙ t)
+
+pub refill-falls : (m : Mode) (n : ℕ) (g r : Going) → g .characters ≡ g .stop → r ≡ refilled m g → left n r < left n g
+unfolding left
+refill-falls m n g r f er =
+    let a : fullness (g .characters) (g .characters + 32) ≡ 0 = ap (λ b. cond b 3 0) (ne-eqb (g .characters) (g .characters + 32) (λ z. omega (arith, z))) in
+    let b : fullness (g .characters) (g .stop) ≡ 3 = ap (λ b. cond b 3 0) (eq-eqb (g .characters) (g .stop) f) in
+    let c : underway 0 ≡ 0 = refl in
+    subst (λ (r : Going). left n r < left n g) (sym er) (unfold left in omega (arith, a, b, c, back-up m (g .at)))
+
+pub turn-falls : (n : ℕ) (g r : Going) (v : ℕ) (b : Bool) → g .at < n → g .characters ≤ 2 * g .at → b ≡ givenUp v (g .row) → b ≡ false → r ≡ turned g v → left n r < left n g
+unfolding left turned
+turn-falls n g r v b h l eb f er = subst (λ (r : Going). left n r < left n g) (sym er) (unfold left turned in
+    by-test (eqb (doneBy v) 3)
+    (λ a. rw a (over-falls (eqb-false (g .row) 0 (ap (λ b. cond b (eqb (g .row) 0) false) (sym a) ∙ sym eb ∙ f))))
+    (λ a. by-test (eqb (doneBy v) 2) (λ b. rw (a, b) note-falls) (λ b. rw (a, b) put-falls)))
+  where
+    over-falls : (g .row ≡ 0 → ⊥) → 2 * (n - g .at) + 4 * (2 * n - g .characters) + fullness (g .characters) (g .stop) + 0 < 2 * (n - g .at) + 4 * (2 * n - g .characters) + fullness (g .characters) (g .stop) + underway (g .row)
+    over-falls f = let b : underway (g .row) ≡ 1 = ap (λ b. cond b 1 0) (lt-ltb 0 (g .row) (omega (arith, f))) in omega (arith, b)
+
+    note-falls : 2 * (n - (g .at + 1)) + 4 * (2 * n - g .characters) + fullness (g .characters) (g .stop) + underway (v / 64) < 2 * (n - g .at) + 4 * (2 * n - g .characters) + fullness (g .characters) (g .stop) + underway (g .row)
+    note-falls = omega (arith, h, underway-most (v / 64))
+
+    put-falls : 2 * (n - (g .at + 1)) + 4 * (2 * n - (g .characters + 1)) + fullness (g .characters + 1) (stopOf (doneBy v) (g .characters) (g .stop)) + underway (v / 64) < 2 * (n - g .at) + 4 * (2 * n - g .characters) + fullness (g .characters) (g .stop) + underway (g .row)
+    put-falls = omega (arith, h, l, underway-most (v / 64), fullness-most (g .characters + 1) (stopOf (doneBy v) (g .characters) (g .stop)))
+
+-- a turn more, of a cluster that is not full
+pub turn-inside : (g : Going) (n : ℕ) (b full : Bool) → b ≡ goesOn g n → b ≡ true → full ≡ eqb (g .characters) (g .stop) → full ≡ false → g .at < n
+turn-inside g n b full e t ef f = ltb-true (g .at) n (ap (λ c. cond c true (ltb (g .at) n)) (sym f ∙ ef) ∙ sym e ∙ t)

@@ -23,23 +23,24 @@ use Rattle.segment.specs.Calls.{grammar, joins}
 use Rattle.segment.specs.Runs.{Roomy}
 use Rattle.segment.specs.Standing.{Running}
 use Rattle.segment.proofs.Turns.{run-starts}
-use Rattle.segment.specs.Machine.{indexOf, rowsOf, tableOf, cellAt, stopOf, simpleSymbol, myanmarSymbol, emojiSymbol, useSymbol, useIndex, useRegular, Regular, regularAt}
-use Rattle.segment.specs.SimpleTable.{simpleTable}
-use Rattle.segment.specs.MyanmarTable.{myanmarTable}
-use Rattle.segment.specs.ComplexTable.{complexTable}
-use Rattle.segment.specs.KhmerTable.{khmerTable}
+use Rattle.tables.specs.Symbols.{indexOf, rowsOf, tableOf, cellAt, simpleSymbol, myanmarSymbol, emojiSymbol, useSymbol, useIndex, useRegular, Regular}
+use Rattle.tables.specs.SimpleTable.{simpleTable}
+use Rattle.tables.specs.MyanmarTable.{myanmarTable}
+use Rattle.tables.specs.ComplexTable.{complexTable}
+use Rattle.tables.specs.KhmerTable.{khmerTable}
 use Rattle.complex.specs.Grammar as Complex-rules
-use Rattle.segment.proofs.Residual.{first, Fine, Inside, Calm, calm-free}
-use Rattle.segment.proofs.Turn.{Cell, over, sets-as, notes, opens, cellOf, fresh, orFresh, joiner, Between, Under, Next, Put, After, start-turn, joiner-turn, under-turn}
-use Rattle.segment.proofs.Cells.{shapeAt, code-at, decodedBy, okay}
-use Rattle.segment.proofs.SimpleRules as simple
-use Rattle.segment.proofs.SimpleFine as simple-fine
-use Rattle.segment.proofs.MyanmarRules as my
-use Rattle.segment.proofs.MyanmarFine as my-fine
-use Rattle.segment.proofs.MyanmarCalm.{calm-myanmar}
-use Rattle.segment.proofs.ComplexRules as cx
-use Rattle.segment.proofs.KhmerRules as kh
-use Rattle.segment.proofs.UseFine as use-fine
+use Rattle.residual.proofs.Residual.{first, Fine, Inside, Calm, calm-free}
+use Rattle.tables.proofs.Pairs.{pair-law}
+use Rattle.segment.proofs.Turn.{joiner, Between, Under, Next, Put, After, start-turn, joiner-turn, under-turn}
+use Rattle.tables.proofs.Cells.{Cell, over, sets-as, cellOf, fresh, orFresh, decodedBy, okay}
+use Rattle.tables.proofs.SimpleRules as simple
+use Rattle.tables.proofs.SimpleFine as simple-fine
+use Rattle.tables.proofs.MyanmarRules as my
+use Rattle.tables.proofs.MyanmarFine as my-fine
+use Rattle.tables.proofs.MyanmarCalm.{calm-myanmar}
+use Rattle.tables.proofs.ComplexRules as cx
+use Rattle.tables.proofs.KhmerRules as kh
+use Rattle.tables.proofs.UseFine as use-fine
 
 -- what is known of a parser's symbols
 abbrev pub answerOf : Parser → Mode → List ℕ → ℕ → Test → Bool
@@ -118,7 +119,7 @@ use-index khmer text g i row l h = by-test (ltb row 34)
 
 -- the table is the grammar's
 pub table-law : (parser : Parser) (mode : Mode) (text : List ℕ) → Regular parser text → (i row : ℕ) → i < length text → row < rowsOf parser → cellsAt parser mode text i row ≡ decoded parser mode text (cellIn parser mode text i row)
-unfolding rowsOf tableOf indexOf useIndex grammar regularAt
+unfolding rowsOf tableOf indexOf useIndex grammar
 table-law Simple mode text g i row l h =
     let f = simpleSymbol (tokenAt text i) in
     let n : f * 9 + row < 378 = omega (arith, h, simple-fine.symbol-below text g i l) in
@@ -130,68 +131,32 @@ table-law Simple mode text g i row l h =
     same zero = refl
     same (suc r) = refl
 table-law Myanmar mode text g i row l h =
-    let a = myanmarSymbol mode text i in
-    let e = emojiSymbol (tokenAt text i) in
-    let p : ℕ = a * 6 + e in
-    let b = my-fine.pair-below mode text g i l in
-    let n : p * 35 + row < 7140 = omega (arith, b, h) in
-    let q : (p * 35 + row) / 35 ≡ p = omega (arith, h) in
-    let m : (p * 35 + row) % 35 ≡ row = omega (arith, h) in
-    let ps : p / 6 ≡ a = my-fine.pair-symbol mode text g i l in
-    let pe : p % 6 ≡ e = my-fine.pair-class mode text g i l in
-    let u : (p * 35 + row) / 210 ≡ a = omega (arith, h, ps) in
-    let f : my.feasible ((p * 35 + row) / 210) ((p * 35 + row) / 35 % 6) ≡ true = ap (λ x. my.feasible x ((p * 35 + row) / 35 % 6)) u ∙ ap (λ x. my.feasible a (x % 6)) q ∙ ap (my.feasible a) pe ∙ my-fine.pair-feasible mode text g i l in
     same row
-    ∙ sym (ap (λ x. my.expected x ((p * 35 + row) % 35)) q ∙ ap (my.expected p) m)
-    ∙ my.right-at (p * 35 + row) n f
-    ∙ ap (λ x. decodedBy my.rules (getD myanmarTable x 0)) (ap (λ x. my.place x ((p * 35 + row) % 35)) q ∙ ap (my.place p) m ∙ ap (λ x. cond (ltb row 34) (x * 34 + row) (1156 + p % 6)) ps ∙ ap (λ x. cond (ltb row 34) (a * 34 + row) (1156 + x)) pe)
+    ∙ pair-law 1156 7140 my.rules myanmarTable my.expected my.feasible my.right-at (myanmarSymbol mode text i) (emojiSymbol (tokenAt text i)) row
+    (omega (arith, my-fine.symbol-below mode text g i l, my-fine.class-below mode text g i l)) (my-fine.class-below mode text g i l) h (my-fine.pair-feasible mode text g i l)
   where
     same : (row : ℕ) → cellsAt Myanmar mode text i row ≡ my.expected (myanmarSymbol mode text i * 6 + emojiSymbol (tokenAt text i)) row
     same zero = ap (λ x. fresh (cond (eqb x 33) over (cellOf (sampleOf Myanmar mode text i) (first (answerOf Myanmar mode text i) (grammar Myanmar))))) (sym (my-fine.pair-symbol mode text g i l))
     same (suc r) = ap (λ x. orFresh (cellOf (sampleOf Myanmar mode text i) (first (answerOf Myanmar mode text i) (getD my.rules r skip))) (cond (eqb r 33) over (cond (eqb x 33) over (cellOf (sampleOf Myanmar mode text i) (first (answerOf Myanmar mode text i) (grammar Myanmar)))))) (sym (my-fine.pair-symbol mode text g i l))
 table-law Complex mode text g i row l h =
-    let a = useSymbol false (tokenAt text i) in
-    let e = emojiSymbol (tokenAt text i) in
-    let p : ℕ = a * 6 + e in
-    let b = use-fine.pair-below false text g i l in
-    let n : p * 35 + row < 9240 = omega (arith, b, h) in
-    let q : (p * 35 + row) / 35 ≡ p = omega (arith, h) in
-    let m : (p * 35 + row) % 35 ≡ row = omega (arith, h) in
-    let ps : p / 6 ≡ a = use-fine.pair-symbol false text g i l in
-    let pe : p % 6 ≡ e = use-fine.pair-class false text g i l in
-    let u : (p * 35 + row) / 210 ≡ a = omega (arith, h, ps) in
-    let f : cx.feasible ((p * 35 + row) / 210) ((p * 35 + row) / 35 % 6) ≡ true = ap (λ x. cx.feasible x ((p * 35 + row) / 35 % 6)) u ∙ ap (λ x. cx.feasible a (x % 6)) q ∙ ap (cx.feasible a) pe ∙ use-fine.pair-feasible false text g i l in
     same row
-    ∙ sym (ap (λ x. cx.expected x ((p * 35 + row) % 35)) q ∙ ap (cx.expected p) m)
-    ∙ cx.right-at (p * 35 + row) n f
-    ∙ ap (λ x. decodedBy cx.rules (getD complexTable x 0)) (ap (λ x. cx.place x ((p * 35 + row) % 35)) q ∙ ap (cx.place p) m ∙ ap (λ x. cond (ltb row 34) (x * 34 + row) (1496 + p % 6)) ps ∙ ap (λ x. cond (ltb row 34) (a * 34 + row) (1496 + x)) pe)
+    ∙ pair-law 1496 9240 cx.rules complexTable cx.expected cx.feasible cx.right-at (useSymbol false (tokenAt text i)) (emojiSymbol (tokenAt text i)) row
+    (omega (arith, use-fine.symbol-below false text g i l, use-fine.class-below false text g i l)) (use-fine.class-below false text g i l) h (use-fine.pair-feasible false text g i l)
   where
     same : (row : ℕ) → cellsAt Complex mode text i row ≡ cx.expected (useSymbol false (tokenAt text i) * 6 + emojiSymbol (tokenAt text i)) row
     same zero = refl
     same (suc r) = refl
 table-law Khmer mode text g i row l h =
-    let a = useSymbol true (tokenAt text i) in
-    let e = emojiSymbol (tokenAt text i) in
-    let p : ℕ = a * 6 + e in
-    let b = use-fine.pair-below true text g i l in
-    let n : p * 35 + row < 9240 = omega (arith, b, h) in
-    let q : (p * 35 + row) / 35 ≡ p = omega (arith, h) in
-    let m : (p * 35 + row) % 35 ≡ row = omega (arith, h) in
-    let ps : p / 6 ≡ a = use-fine.pair-symbol true text g i l in
-    let pe : p % 6 ≡ e = use-fine.pair-class true text g i l in
-    let u : (p * 35 + row) / 210 ≡ a = omega (arith, h, ps) in
-    let f : cx.feasible ((p * 35 + row) / 210) ((p * 35 + row) / 35 % 6) ≡ true = ap (λ x. cx.feasible x ((p * 35 + row) / 35 % 6)) u ∙ ap (λ x. cx.feasible a (x % 6)) q ∙ ap (cx.feasible a) pe ∙ use-fine.pair-feasible true text g i l in
     same row
-    ∙ sym (ap (λ x. kh.expected x ((p * 35 + row) % 35)) q ∙ ap (kh.expected p) m)
-    ∙ kh.right-at (p * 35 + row) n f
-    ∙ ap (λ x. decodedBy kh.rules (getD khmerTable x 0)) (ap (λ x. kh.place x ((p * 35 + row) % 35)) q ∙ ap (kh.place p) m ∙ ap (λ x. cond (ltb row 34) (x * 34 + row) (1496 + p % 6)) ps ∙ ap (λ x. cond (ltb row 34) (a * 34 + row) (1496 + x)) pe)
+    ∙ pair-law 1496 9240 kh.rules khmerTable kh.expected kh.feasible kh.right-at (useSymbol true (tokenAt text i)) (emojiSymbol (tokenAt text i)) row
+    (omega (arith, use-fine.symbol-below true text g i l, use-fine.class-below true text g i l)) (use-fine.class-below true text g i l) h (use-fine.pair-feasible true text g i l)
   where
     same : (row : ℕ) → cellsAt Khmer mode text i row ≡ kh.expected (useSymbol true (tokenAt text i) * 6 + emojiSymbol (tokenAt text i)) row
     same zero = refl
     same (suc r) = refl
 
 pub table-okay : (parser : Parser) (mode : Mode) (text : List ℕ) → Regular parser text → (i row : ℕ) → i < length text → row < rowsOf parser → true ≡ okay (rowsOf parser) (cellIn parser mode text i row)
-unfolding rowsOf tableOf indexOf regularAt
+unfolding rowsOf tableOf indexOf
 table-okay Simple mode text g i row l h = simple.okay-at (simpleSymbol (tokenAt text i) * 9 + row) (omega (arith, h, simple-fine.symbol-below text g i l))
 table-okay Myanmar mode text g i row l h = my.okay-at _ (my-index mode text g i row l h)
 table-okay Complex mode text g i row l h = cx.okay-at _ (use-index false text g i row l h)
@@ -199,7 +164,7 @@ table-okay Khmer mode text g i row l h = kh.okay-at _ (use-index true text g i r
 
 -- an index of the table
 table-index : (parser : Parser) (mode : Mode) (text : List ℕ) → Regular parser text → (i row : ℕ) → i < length text → row < rowsOf parser → indexOf parser mode text i row < length (tableOf parser)
-unfolding rowsOf tableOf indexOf regularAt
+unfolding rowsOf tableOf indexOf
 table-index Simple mode text g i row l h = omega (arith, h, simple-length, simple-fine.symbol-below text g i l)
 table-index Myanmar mode text g i row l h = let z = my-index mode text g i row l h in let y = my-length in omega (arith, z, y)
 table-index Complex mode text g i row l h = let z = use-index false text g i row l h in let y = cx-length in omega (arith, z, y)
@@ -209,7 +174,7 @@ pub cell-index : (parser : Parser) (mode : Mode) (text : List ℕ) (i row index 
 cell-index parser mode text i row index table g l h e f = let z = table-index parser mode text g i row l h in let y : length table ≡ length (tableOf parser) = ap length e in omega arith
 
 fine-of : (parser : Parser) (mode : Mode) (text : List ℕ) → Regular parser text → (i : ℕ) → i < length text → Fine text (answerOf parser mode text) (sampleOf parser mode text) (Inside text) (grammar parser)
-unfolding grammar regularAt
+unfolding grammar
 fine-of Simple mode text g i h = simple-fine.fine-simple text g
 fine-of Myanmar mode text g i h = my-fine.fine-myanmar mode text g
 fine-of Complex mode text g i h = use-fine.fine-complex false text g

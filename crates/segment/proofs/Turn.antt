@@ -26,48 +26,18 @@ use Rattle.parse.specs.State.{tokenAt, placeAfter, filledAt, begin, placeOf, no
 use Rattle.parse.specs.Rule.{Rule, Test, run}
 use Rattle.parse.specs.Cover.{pushed}
 use Rattle.parse.proofs.Loop.{false-true, if-intro, by-test, Falls, loop-goes, loop-stays}
-use Rattle.parse.proofs.Moves.{moved-case, put-same, joiner-going}
+use Rattle.parse.proofs.Moves.{hop-falls}
 use Rattle.parse.proofs.Runs.{run-still}
 use Rattle.segment.specs.Calls.{grammar, joins, called}
 use Rattle.segment.specs.Runs.{scalarIn, classIn, clusterIn, Roomy}
 use Rattle.segment.proofs.Written.{sets-append}
 use Rattle.segment.specs.Standing.{Running}
 use Rattle.segment.proofs.Turns.{run-turn}
-use Rattle.segment.proofs.Residual.{Act, put, noted, Marks, Res, pass, halt, act, first, does, marked, Claim, Calm, Inside, Fine, first-run, FineRes, fine-first}
+use Rattle.residual.proofs.Residual.{put, noted, Marks, Res, pass, halt, act, first, marked, Claim, Calm, Inside, Fine, first-run, FineRes, fine-first}
+use Rattle.residual.proofs.Steps.{plus, put-plus, more, noted-more, moved-next, moved-end, moved-full, pend, pend-still, single, does-single}
+use Rattle.tables.proofs.Cells.{Cell, over, sets-as, notes, opens, cellOf, fresh, orFresh}
 
--- a cell of a table: the cluster is over and the loop is left, a character, a note, a character of a new cluster; and the rule that is left
-pub data Cell : Type 0 where
-  over : Cell
-  sets-as : Shape → Rule → Cell
-  notes : Rule → Cell
-  opens : Shape → Rule → Cell
-
-abbrev pub cellOf : ℕ → Res → Cell
-cellOf t (pass m) = over
-cellOf t (halt m) = over
-cellOf t (act m (put f) k) = sets-as (f t) k
-cellOf t (act m noted k) = notes k
-
--- a rule that is over gives way to a new cluster
-abbrev pub fresh : Cell → Cell
-fresh over = over
-fresh (sets-as c k) = opens c k
-fresh (notes k) = over
-fresh (opens c k) = over
-
-abbrev pub orFresh : Cell → Cell → Cell
-orFresh over y = fresh y
-orFresh (sets-as c k) y = sets-as c k
-orFresh (notes k) y = notes k
-orFresh (opens c k) y = over
-
--- a character more
-
-abbrev pub plus : ℕ → Shape → Parse → Parse
-plus t c s = withCells (s .len + 1) (set (s .chars) (s .len) (charOf t c)) s
-
-pub put-plus : (t : ℕ) (c : Shape) (s : Parse) → s .len < 32 → putOf t c s ≡ plus t c s
-put-plus t c s h = if-intro (λ q. q ≡ plus t c s) (ltb (s .len) 32) _ _ (λ e. refl) (λ e. absurd (omega (arith, h, ltb-false (s .len) 32 e)))
+-- what a character more and a note more make of the characters
 
 pushed-plus : (t : ℕ) (c : Shape) (s : Parse) → s .len < length (s .chars) → pushed (plus t c s) ≡ pushed s ++ (charOf t c ∷ [])
 pushed-plus t c s h = ap (λ n. upto n (set (s .chars) (s .len) (charOf t c))) (add-one (s .len)) ∙ take-suc-set (s .chars) (s .len) (charOf t c) h
@@ -77,63 +47,11 @@ col-put g l l₁ w t c s h e =
     let n : length (map g (pushed s)) ≡ s .len = length-map (pushed s) g ∙ length-take-le (s .len) (s .chars) (omega arith) in
     rw (pushed-plus t c s h, map-append g (pushed s) (charOf t c ∷ []), sets-append l₁ (map g (pushed s)) (g (charOf t c) ∷ []) w, n, e)
 
--- a note more
-
-abbrev more : Parse → Parse
-more s = withCells (s .len) (set (s .chars) (s .len - 1) (notedMore (getD (s .chars) (s .len - 1) nothing))) s
-
-noted-more : (t : ℕ) (s : Parse) → 0 < s .len → s .len < 32 → notedOf t s ≡ more s
-noted-more t s h l = if-intro (λ q. q ≡ more s) (ltb 0 (s .len)) _ _
-    (λ a. if-intro (λ q. q ≡ more s) (ltb (s .len) 33) _ _ (λ b. refl) (λ b. absurd (omega (arith, l, ltb-false (s .len) 33 b))))
-    (λ a. absurd (omega (arith, h, ltb-false 0 (s .len) a)))
-
 map-noted : (g : Pushed → ℕ) → ((x : Pushed) → g (notedMore x) ≡ g x) → (n i : ℕ) (cs : List Pushed) → map g (upto n (set cs i (notedMore (getD cs i nothing)))) ≡ map g (upto n cs)
 map-noted g h zero i cs = refl
 map-noted g h (suc n) i [] = refl
 map-noted g h (suc n) zero (x ∷ xs) = ap (λ v. v ∷ map g (upto n xs)) (h x)
 map-noted g h (suc n) (suc i) (x ∷ xs) = ap (λ r. g x ∷ r) (map-noted g h n i xs)
-
--- a step
-
-place-next : (n i : ℕ) → i < n → placeAfter n i ≡ i + 1
-place-next n i h = rw (lt-ltb i n h)
-
-pub moved-next : (n : ℕ) (s : Parse) → s .len < 32 → s .at + 1 < n → movedOf n s ≡ withPlace (s .at + 1) s
-moved-next n s l h = moved-case (λ q. q ≡ withPlace (s .at + 1) s) n s (λ a b. refl)
-    (λ a b. absurd (omega (arith, h, b, place-next n (s .at) (omega arith)))) (λ a. absurd (omega (arith, l, a)))
-
-moved-end : (n : ℕ) (s : Parse) → s .len < 32 → n ≤ s .at + 1 → movedOf n s ≡ withFlow End (withDone s)
-moved-end n s l h = moved-case (λ q. q ≡ withFlow End (withDone s)) n s (λ a b. absurd (omega (arith, h, b))) (λ a b. refl) (λ a. absurd (omega (arith, l, a)))
-
-moved-full : (n : ℕ) (s : Parse) → 32 ≤ s .len → movedOf n s ≡ withFlow Full (withPlace (filledAt (s .mode) n (s .at)) s)
-moved-full n s l = moved-case (λ q. q ≡ withFlow Full (withPlace (filledAt (s .mode) n (s .at)) s)) n s (λ a b. absurd (omega (arith, l, a))) (λ a b. absurd (omega (arith, l, a))) (λ a. refl)
-
-moved-turns : (text : List ℕ) (s : Parse) → going s ≡ true → turns text (movedOf (length text) s) < turns text s
-moved-turns text s g = moved-case (λ q. turns text q < turns text s) (length text) s
-    (λ l h. simp g (omega arith)) (λ l h. simp g (omega arith)) (λ l. simp g (omega arith))
-
-pub hop-falls : (text : List ℕ) → Falls text (onJoiner text) (hop text)
-hop-falls text s h =
-    let t = tokenAt text (s .at) in
-    rw (← put-same (turns text) (λ n cs q. refl) t s Other)
-    (moved-turns text (putOf t Other s) (put-same going (λ n cs q. refl) t s Other ∙ joiner-going text s h))
-
--- the rule after the U+034F that stand here
-abbrev pub pend : List ℕ → Rule → Parse → Parse
-pend text k s = run k text (loop text (onJoiner text) (hop text) s)
-
-pend-still : (text : List ℕ) (k : Rule) (s : Parse) → going s ≡ false → pend text k s ≡ s
-pend-still text k s g = ap (run k text) (loop-stays text (onJoiner text) (hop text) s (rw g)) ∙ run-still k text s g
-
--- an act is the token put or noted, a step, and the U+034F there
-abbrev single : List ℕ → Act → Parse → Parse
-single text (put f) s = movedOf (length text) (putOf (tokenAt text (s .at)) (f (tokenAt text (s .at))) s)
-single text noted s = movedOf (length text) (notedOf (tokenAt text (s .at)) s)
-
-does-single : (text : List ℕ) (k : Rule) (x : Act) (s : Parse) → run k text (does text x s) ≡ pend text k (single text x s)
-unfolding pushOf noteOf stepOf
-does-single text k (put f) s = refl
-does-single text k noted s = refl
 
 -- U+034F, where it is stepped over
 abbrev pub joiner : Bool → ℕ → Bool

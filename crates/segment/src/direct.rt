@@ -1,37 +1,36 @@
-// The loop over a table that reads the lent columns: no token is kept, no array filled.
-use crate::table::Stand;
-use crate::table::back;
-use crate::table::begins_kinzi;
-use crate::table::cell;
-use crate::table::emoji_symbol;
-use crate::table::number;
-use crate::table::other_symbol;
-use crate::table::simple_symbol;
-use crate::table::stop_of;
-use crate::table::use_index;
-use crate::tame::all_myanmar;
-use crate::tame::all_use;
+// The loops over a table that read the lent columns: no token is kept, no array filled. Each parser has a loop of its own, so that its
+// columns and its way to the cell are constants in it; what a turn does with the cell is `Going`'s.
+use crate::going::Going;
+use crate::going::Stand;
+use crate::going::cell;
+use crate::going::gives_up;
 use classes::Mode;
+use classes::myanmar_class;
+use classes::scalar;
+use myanmar::begins_kinzi;
 use records::Parser;
+use records::cells::cell32;
+use records::cells::length32;
+use tables::complex_table::COMPLEX;
+use tables::emoji_symbol;
+use tables::khmer_table::KHMER;
+use tables::myanmar_other;
+use tables::myanmar_table::MYANMAR;
+use tables::simple_symbol;
+use tables::simple_table::SIMPLE;
+use tables::use_symbol;
 ghost use mathlib.Core.Path.{_≡_};
-ghost use mathlib.Core.Bool.{true};
 ghost use lib.ListN.{length};
 ghost use Prim.Native.Nat.{_<_};
-ghost use Rattle.records.specs.Text.{lent};
-ghost use Rattle.records.specs.Sound.{Sound};
-ghost use Rattle.records.specs.declared.Parser.the-variants.{Simple, Myanmar, Complex, Khmer};
 ghost use Rattle.classes.specs.declared.Mode.the-variants.{Crate};
-ghost use Rattle.tokens.specs.Tokens.{streamOf};
+ghost use Rattle.records.specs.Text.{lent};
+ghost use Rattle.records.specs.declared.Parser.the-variants.{Simple, Myanmar, Complex, Khmer};
 ghost use Rattle.parse.specs.State.{tokenAt};
-ghost use Rattle.token.specs.Token.{scalarOf};
-ghost use Rattle.myanmar.specs.Grammar.{isKinzi, scalarAt};
-ghost use Rattle.segment.specs.Calls.{joins};
-ghost use Rattle.segment.specs.Runs.{Roomy};
-ghost use Rattle.segment.specs.Standing.{Running};
-ghost use Rattle.segment.specs.Machine.{Regular, myanmarSymbol, endsAt, indexOf, tableOf};
-ghost use Rattle.segment.specs.Seen.{seenIn, Even, Direct};
+ghost use Rattle.tables.specs.Symbols.{useIndex, tableOf};
+ghost use Rattle.segment.specs.Seen.{seenIn, useParser, Even, kinziIn, endsIn, myanmarSeen, myanmarIndex};
+ghost use Rattle.segment.specs.Standing.{Ready, ReachedIn};
 
-// Record i as a token.
+// Record i as a token. It is packed in a register and taken apart at once: the compiler leaves of both what is asked for.
 fn token_at(
     scalars: &[u32],
     kinds: &[u8],
@@ -55,771 +54,258 @@ fn token_at(
     )
 }
 
-// The scalar of record i.
-fn scalar_of(
-    scalars: &[u32],
-    kinds: &[u8],
-    breaks: &[u8],
-    categories: &[u8],
-    emojis: &[u8],
-    selectors: &[u8],
-    i: usize,
-) -> u32
-    requires { ⌜ Even (now scalars) (now kinds) (now breaks) (now categories) (now emojis) (now selectors) × (i < length (now scalars)) ⌝ }
-    ensures { λ r. ⌜ r ≡ scalarOf (tokenAt (seenIn (now (scalars .entry)) (now (kinds .entry)) (now (breaks .entry)) (now (categories .entry)) (now (emojis .entry)) (now (selectors .entry))) i) ⌝ }
-{
-    token::scalar(token_at(scalars, kinds, breaks, categories, emojis, selectors, i))
-}
-
-// The place of the cell for record i in the table of each parser.
-fn place_simple(
-    parser: Parser,
+fn by_simple<'s, 'a>(
     mode: Mode,
-    scalars: &[u32],
-    kinds: &[u8],
-    breaks: &[u8],
-    categories: &[u8],
-    emojis: &[u8],
-    selectors: &[u8],
-    i: usize,
-    row: usize,
-) -> usize
-    requires { ⌜ (parser ≡ Simple) × (Even (now scalars) (now kinds) (now breaks) (now categories) (now emojis) (now selectors) × ((i < length (now scalars)) × (row < 64))) ⌝ }
-    ensures { λ r. ⌜ r ≡ indexOf parser mode (seenIn (now (scalars .entry)) (now (kinds .entry)) (now (breaks .entry)) (now (categories .entry)) (now (emojis .entry)) (now (selectors .entry))) i row ⌝ }
+    wides: &'s [&'a [u32]; 2],
+    bytes: &'s [&'a [u8]; 15],
+    firsts: &'a [u16],
+    oscalars: &mut [u32],
+    oclasses: &mut [u8],
+    oclusters: &mut [u16],
+) -> Stand
+    requires { ⌜ Ready Simple (lent wides bytes firsts) (now oscalars) (now oclasses) (now oclusters) ⌝ }
+    ensures { λ r. ⌜ ReachedIn Simple mode (lent (wides .entry) (bytes .entry) (firsts .entry)) (oscalars .entry) (oclasses .entry) (oclusters .entry) (oscalars .exit) (oclasses .exit) (oclusters .exit) r ⌝ }
 {
-    // a selector and three scalars matter with EX alone
-    let kind = kinds[i] % 64;
-    if kind == 10 {
-        return simple_symbol(token_at(scalars, kinds, breaks, categories, emojis, selectors, i)) * 9
-            + row;
+    let table = SIMPLE;
+    let scalars = wides[0];
+    let breaks = bytes[0];
+    let categories = bytes[3];
+    let emojis = bytes[5];
+    let selectors = bytes[9];
+    let n = length32(scalars);
+    let mut g = Going::START;
+    while g.goes_on(n) {
+        if g.is_full() {
+            g = g.refill(mode);
+        } else {
+            let i = g.at;
+            let row = g.row;
+            let t = token_at(scalars, breaks, breaks, categories, emojis, selectors, i);
+            let x = token::scalar(t);
+            let v = cell(false, &table, x, simple_symbol(t) * 9 + row, row);
+            if gives_up(v, row) {
+                return g.stand();
+            }
+            g = g.turn(v, x, oscalars, oclasses, oclusters);
+        }
     }
-    (kind as usize + 14 * (emojis[i] % 2) as usize) * 9 + row
+    g.stand()
 }
 
-fn place_myanmar(
-    parser: Parser,
-    mode: Mode,
-    scalars: &[u32],
-    kinds: &[u8],
-    breaks: &[u8],
-    categories: &[u8],
-    emojis: &[u8],
-    selectors: &[u8],
-    i: usize,
-    row: usize,
-) -> usize
-    requires { ⌜ (parser ≡ Myanmar) × (Even (now scalars) (now kinds) (now breaks) (now categories) (now emojis) (now selectors) × ((i < length (now scalars)) × (row < 64))) ⌝ }
-    ensures { λ r. ⌜ r ≡ indexOf parser mode (seenIn (now (scalars .entry)) (now (kinds .entry)) (now (breaks .entry)) (now (categories .entry)) (now (emojis .entry)) (now (selectors .entry))) i row ⌝ }
+fn kinzi_at(scalars: &[u32], i: usize) -> bool
+    requires { ⌜ i < length (now scalars) ⌝ }
+    ensures { λ r. ⌜ r ≡ kinziIn (now (scalars .entry)) i ⌝ }
 {
-    myanmar_place(
-        mode,
-        scalars,
-        kinds,
-        breaks,
-        categories,
-        emojis,
-        selectors,
-        i,
-        row,
-    )
-}
-
-fn place_complex(
-    parser: Parser,
-    mode: Mode,
-    scalars: &[u32],
-    kinds: &[u8],
-    breaks: &[u8],
-    categories: &[u8],
-    emojis: &[u8],
-    selectors: &[u8],
-    i: usize,
-    row: usize,
-) -> usize
-    requires { ⌜ (parser ≡ Complex) × (Even (now scalars) (now kinds) (now breaks) (now categories) (now emojis) (now selectors) × ((i < length (now scalars)) × (row < 64))) ⌝ }
-    ensures { λ r. ⌜ r ≡ indexOf parser mode (seenIn (now (scalars .entry)) (now (kinds .entry)) (now (breaks .entry)) (now (categories .entry)) (now (emojis .entry)) (now (selectors .entry))) i row ⌝ }
-{
-    use_index(
-        false,
-        token_at(scalars, kinds, breaks, categories, emojis, selectors, i),
-        row,
-    )
-}
-
-fn place_khmer(
-    parser: Parser,
-    mode: Mode,
-    scalars: &[u32],
-    kinds: &[u8],
-    breaks: &[u8],
-    categories: &[u8],
-    emojis: &[u8],
-    selectors: &[u8],
-    i: usize,
-    row: usize,
-) -> usize
-    requires { ⌜ (parser ≡ Khmer) × (Even (now scalars) (now kinds) (now breaks) (now categories) (now emojis) (now selectors) × ((i < length (now scalars)) × (row < 64))) ⌝ }
-    ensures { λ r. ⌜ r ≡ indexOf parser mode (seenIn (now (scalars .entry)) (now (kinds .entry)) (now (breaks .entry)) (now (categories .entry)) (now (emojis .entry)) (now (selectors .entry))) i row ⌝ }
-{
-    use_index(
-        true,
-        token_at(scalars, kinds, breaks, categories, emojis, selectors, i),
-        row,
-    )
-}
-
-// The scalar at a place, and 0 past the end.
-fn scalar_in(
-    scalars: &[u32],
-    kinds: &[u8],
-    breaks: &[u8],
-    categories: &[u8],
-    emojis: &[u8],
-    selectors: &[u8],
-    i: usize,
-) -> u32
-    requires { ⌜ Even (now scalars) (now kinds) (now breaks) (now categories) (now emojis) (now selectors) ⌝ }
-    ensures { λ r. ⌜ r ≡ scalarAt (seenIn (now (scalars .entry)) (now (kinds .entry)) (now (breaks .entry)) (now (categories .entry)) (now (emojis .entry)) (now (selectors .entry))) i ⌝ }
-{
-    if i < scalars.len() {
-        return scalar_of(scalars, kinds, breaks, categories, emojis, selectors, i);
-    }
-    0
-}
-
-fn kinzi_at(
-    scalars: &[u32],
-    kinds: &[u8],
-    breaks: &[u8],
-    categories: &[u8],
-    emojis: &[u8],
-    selectors: &[u8],
-    i: usize,
-) -> bool
-    requires { ⌜ Even (now scalars) (now kinds) (now breaks) (now categories) (now emojis) (now selectors) × (i < length (now scalars)) ⌝ }
-    ensures { λ r. ⌜ r ≡ isKinzi (seenIn (now (scalars .entry)) (now (kinds .entry)) (now (breaks .entry)) (now (categories .entry)) (now (emojis .entry)) (now (selectors .entry))) i ⌝ }
-{
-    if begins_kinzi(scalar_in(scalars, kinds, breaks, categories, emojis, selectors, i)) {
-        if scalar_in(scalars, kinds, breaks, categories, emojis, selectors, i + 1) == 0x103A {
-            return scalar_in(scalars, kinds, breaks, categories, emojis, selectors, i + 2)
-                == 0x1039;
+    if begins_kinzi(scalars[i]) {
+        if cell32(scalars, i + 1) == scalar::ASAT {
+            return cell32(scalars, i + 2) == scalar::VIRAMA;
         }
         return false;
     }
     false
 }
 
-fn ends_here(
-    mode: Mode,
-    scalars: &[u32],
-    kinds: &[u8],
-    breaks: &[u8],
-    categories: &[u8],
-    emojis: &[u8],
-    selectors: &[u8],
-    i: usize,
-) -> bool
-    requires { ⌜ Even (now scalars) (now kinds) (now breaks) (now categories) (now emojis) (now selectors) × (i < length (now scalars)) ⌝ }
-    ensures { λ r. ⌜ r ≡ endsAt mode (seenIn (now (scalars .entry)) (now (kinds .entry)) (now (breaks .entry)) (now (categories .entry)) (now (emojis .entry)) (now (selectors .entry))) i ⌝ }
+// Whether behind a kinzi the text ends or U+034F stands: in crate mode repeat (b) can follow, which the calls make.
+fn ends_at(mode: Mode, scalars: &[u32], i: usize) -> bool
+    requires { ⌜ i < length (now scalars) ⌝ }
+    ensures { λ r. ⌜ r ≡ endsIn mode (now (scalars .entry)) i ⌝ }
 {
     match mode {
-        Mode::Crate => ends_open(scalars, kinds, breaks, categories, emojis, selectors, i),
+        Mode::Crate => ends_crate(scalars, i),
         Mode::Whole => false,
     }
 }
 
-fn ends_open(
-    scalars: &[u32],
-    kinds: &[u8],
-    breaks: &[u8],
-    categories: &[u8],
-    emojis: &[u8],
-    selectors: &[u8],
-    i: usize,
-) -> bool
-    requires { ⌜ Even (now scalars) (now kinds) (now breaks) (now categories) (now emojis) (now selectors) × (i < length (now scalars)) ⌝ }
-    ensures { λ r. ⌜ r ≡ endsAt Crate (seenIn (now (scalars .entry)) (now (kinds .entry)) (now (breaks .entry)) (now (categories .entry)) (now (emojis .entry)) (now (selectors .entry))) i ⌝ }
+fn ends_crate(scalars: &[u32], i: usize) -> bool
+    requires { ⌜ i < length (now scalars) ⌝ }
+    ensures { λ r. ⌜ r ≡ endsIn Crate (now (scalars .entry)) i ⌝ }
 {
     if i + 3 < scalars.len() {
-        return scalar_of(scalars, kinds, breaks, categories, emojis, selectors, i + 3) == 0x034F;
+        return scalars[i + 3] == scalar::CGJ;
     }
     true
 }
 
-fn myanmar_at(
-    mode: Mode,
-    scalars: &[u32],
-    kinds: &[u8],
-    breaks: &[u8],
-    categories: &[u8],
-    emojis: &[u8],
-    selectors: &[u8],
-    i: usize,
-) -> usize
-    requires { ⌜ Even (now scalars) (now kinds) (now breaks) (now categories) (now emojis) (now selectors) × (i < length (now scalars)) ⌝ }
-    ensures { λ r. ⌜ (r ≡ myanmarSymbol mode (seenIn (now (scalars .entry)) (now (kinds .entry)) (now (breaks .entry)) (now (categories .entry)) (now (emojis .entry)) (now (selectors .entry))) i) × (r < 64) ⌝ }
+fn myanmar_symbol(mode: Mode, scalars: &[u32], t: u64, i: usize) -> usize
+    requires { ⌜ i < length (now scalars) ⌝ }
+    ensures { λ r. ⌜ (r ≡ myanmarSeen mode (now (scalars .entry)) t i) × (r < 64) ⌝ }
 {
-    let t = token_at(scalars, kinds, breaks, categories, emojis, selectors, i);
     if token::emoji(t) == 1 {
         return 26;
     }
-    if token::kind(t) == 13 {
-        return other_symbol(t);
+    let kind = token::kind(t);
+    if kind == myanmar_class::O {
+        return myanmar_other(t);
     }
-    if kinzi_at(scalars, kinds, breaks, categories, emojis, selectors, i) {
-        if ends_here(
-            mode,
-            scalars,
-            kinds,
-            breaks,
-            categories,
-            emojis,
-            selectors,
-            i,
-        ) {
+    if kinzi_at(scalars, i) {
+        if ends_at(mode, scalars, i) {
             return 33;
         }
         return 32;
     }
-    (t / 0x20_0000 % 64) as usize
+    kind as usize
 }
 
-fn myanmar_place(
-    mode: Mode,
-    scalars: &[u32],
-    kinds: &[u8],
-    breaks: &[u8],
-    categories: &[u8],
-    emojis: &[u8],
-    selectors: &[u8],
-    i: usize,
-    row: usize,
-) -> usize
-    requires { ⌜ Even (now scalars) (now kinds) (now breaks) (now categories) (now emojis) (now selectors) × ((i < length (now scalars)) × (row < 64)) ⌝ }
-    ensures { λ r. ⌜ r ≡ indexOf Myanmar mode (seenIn (now (scalars .entry)) (now (kinds .entry)) (now (breaks .entry)) (now (categories .entry)) (now (emojis .entry)) (now (selectors .entry))) i row ⌝ }
+// The index of the cell: the last row, behind an emoji, has symbols of its own.
+fn myanmar_index(mode: Mode, scalars: &[u32], t: u64, i: usize, row: usize) -> usize
+    requires { ⌜ (i < length (now scalars)) × (row < 64) ⌝ }
+    ensures { λ r. ⌜ r ≡ myanmarIndex mode (now (scalars .entry)) t i row ⌝ }
 {
     if row < 34 {
-        return myanmar_at(
-            mode,
-            scalars,
-            kinds,
-            breaks,
-            categories,
-            emojis,
-            selectors,
-            i,
-        )
-            * 34
-            + row;
+        return myanmar_symbol(mode, scalars, t, i) * 34 + row;
     }
-    1156 + emoji_symbol(token_at(scalars, kinds, breaks, categories, emojis, selectors, i))
+    1156 + emoji_symbol(t)
 }
 
-// Whether U+034F is stepped over, of a parser that is known.
-fn never_joins(parser: Parser) -> bool
-    requires { ⌜ parser ≡ Simple ⌝ }
-    ensures { λ r. ⌜ r ≡ joins parser ⌝ }
-{
-    false
-}
-
-fn joins_myanmar(parser: Parser) -> bool
-    requires { ⌜ parser ≡ Myanmar ⌝ }
-    ensures { λ r. ⌜ r ≡ joins parser ⌝ }
-{
-    true
-}
-
-fn joins_complex(parser: Parser) -> bool
-    requires { ⌜ parser ≡ Complex ⌝ }
-    ensures { λ r. ⌜ r ≡ joins parser ⌝ }
-{
-    true
-}
-
-fn joins_khmer(parser: Parser) -> bool
-    requires { ⌜ parser ≡ Khmer ⌝ }
-    ensures { λ r. ⌜ r ≡ joins parser ⌝ }
-{
-    true
-}
-
-// The clusters from the start on, as far as the table goes.
-fn by_simple(
-    parser: Parser,
+fn by_myanmar<'s, 'a>(
     mode: Mode,
-    table: &[u16],
-    scalars: &[u32],
-    kinds: &[u8],
-    breaks: &[u8],
-    categories: &[u8],
-    emojis: &[u8],
-    selectors: &[u8],
+    wides: &'s [&'a [u32]; 2],
+    bytes: &'s [&'a [u8]; 15],
+    firsts: &'a [u16],
     oscalars: &mut [u32],
     oclasses: &mut [u8],
     oclusters: &mut [u16],
 ) -> Stand
-    requires { ⌜ Roomy (seenIn (now scalars) (now kinds) (now breaks) (now categories) (now emojis) (now selectors)) (now oscalars) (now oclasses) (now oclusters) × ((now table ≡ tableOf parser) × (Regular parser (seenIn (now scalars) (now kinds) (now breaks) (now categories) (now emojis) (now selectors)) × (Even (now scalars) (now kinds) (now breaks) (now categories) (now emojis) (now selectors) × (parser ≡ Simple)))) ⌝ }
-    ensures { λ r. ⌜ Running parser mode (seenIn (now (scalars .entry)) (now (kinds .entry)) (now (breaks .entry)) (now (categories .entry)) (now (emojis .entry)) (now (selectors .entry))) (now (oscalars .entry)) (now (oclasses .entry)) (now (oclusters .entry)) (now (oscalars .exit)) (now (oclasses .exit)) (now (oclusters .exit)) (r .at) (r .clusters) (r .characters) ⌝ }
+    requires { ⌜ Ready Myanmar (lent wides bytes firsts) (now oscalars) (now oclasses) (now oclusters) ⌝ }
+    ensures { λ r. ⌜ ReachedIn Myanmar mode (lent (wides .entry) (bytes .entry) (firsts .entry)) (oscalars .entry) (oclasses .entry) (oclusters .entry) (oscalars .exit) (oclasses .exit) (oclusters .exit) r ⌝ }
 {
-    let joins = never_joins(parser);
-    let mut i: usize = 0;
-    let mut row: usize = 0;
-    let mut clusters: usize = 0;
-    let mut stop: usize = 32;
-    let mut o: usize = 0;
-    while i < scalars.len() {
-        if o == stop {
-            row = 0;
-            stop = o + 32;
-            i = back(mode, i);
+    let table = MYANMAR;
+    let scalars = wides[0];
+    let kinds = bytes[2];
+    let breaks = bytes[0];
+    let categories = bytes[3];
+    let emojis = bytes[6];
+    let selectors = bytes[9];
+    let n = length32(scalars);
+    let mut g = Going::START;
+    while g.goes_on(n) {
+        if g.is_full() {
+            g = g.refill(mode);
         } else {
-            let x = scalar_of(scalars, kinds, breaks, categories, emojis, selectors, i);
+            let i = g.at;
+            let row = g.row;
+            let t = token_at(scalars, kinds, breaks, categories, emojis, selectors, i);
+            let x = token::scalar(t);
             let v = cell(
-                joins,
-                table,
+                true,
+                &table,
                 x,
-                place_simple(
-                    parser,
-                    mode,
-                    scalars,
-                    kinds,
-                    breaks,
-                    categories,
-                    emojis,
-                    selectors,
-                    i,
-                    row,
-                ),
+                myanmar_index(mode, scalars, t, i, row),
                 row,
             );
-            let what = (v / 16 % 4) as usize;
-            if what == 3 {
-                if row == 0 {
-                    return Stand {
-                        at: i,
-                        clusters,
-                        characters: o,
-                    };
-                }
-                row = 0;
-            } else {
-                row = (v / 64) as usize;
-                i += 1;
-                if what != 2 {
-                    clusters += what;
-                    stop = stop_of(what, o, stop);
-                    oscalars[o] = x;
-                    oclasses[o] = (v % 16) as u8;
-                    oclusters[o] = number(clusters);
-                    o += 1;
-                }
+            if gives_up(v, row) {
+                return g.stand();
             }
+            g = g.turn(v, x, oscalars, oclasses, oclusters);
         }
     }
-    if o == stop {
-        return Stand {
-            at: back(mode, i),
-            clusters,
-            characters: o,
-        };
-    }
-    Stand {
-        at: i,
-        clusters,
-        characters: o,
-    }
+    g.stand()
 }
 
-fn by_myanmar(
-    parser: Parser,
+pub(crate) fn use_index(khmer: bool, t: u64, row: usize) -> usize
+    requires { ⌜ row < 64 ⌝ }
+    ensures { λ r. ⌜ r ≡ useIndex khmer t row ⌝ }
+{
+    if row < 34 {
+        return use_symbol(khmer, t) * 34 + row;
+    }
+    1496 + emoji_symbol(t)
+}
+
+// The complex parser, with the table of Khmer and with the other.
+fn by_use<'s, 'a>(
+    khmer: bool,
     mode: Mode,
     table: &[u16],
-    scalars: &[u32],
-    kinds: &[u8],
-    breaks: &[u8],
-    categories: &[u8],
-    emojis: &[u8],
-    selectors: &[u8],
+    wides: &'s [&'a [u32]; 2],
+    bytes: &'s [&'a [u8]; 15],
+    firsts: &'a [u16],
     oscalars: &mut [u32],
     oclasses: &mut [u8],
     oclusters: &mut [u16],
 ) -> Stand
-    requires { ⌜ Roomy (seenIn (now scalars) (now kinds) (now breaks) (now categories) (now emojis) (now selectors)) (now oscalars) (now oclasses) (now oclusters) × ((now table ≡ tableOf parser) × (Regular parser (seenIn (now scalars) (now kinds) (now breaks) (now categories) (now emojis) (now selectors)) × (Even (now scalars) (now kinds) (now breaks) (now categories) (now emojis) (now selectors) × (parser ≡ Myanmar)))) ⌝ }
-    ensures { λ r. ⌜ Running parser mode (seenIn (now (scalars .entry)) (now (kinds .entry)) (now (breaks .entry)) (now (categories .entry)) (now (emojis .entry)) (now (selectors .entry))) (now (oscalars .entry)) (now (oclasses .entry)) (now (oclusters .entry)) (now (oscalars .exit)) (now (oclasses .exit)) (now (oclusters .exit)) (r .at) (r .clusters) (r .characters) ⌝ }
+    requires { ⌜ (now table ≡ tableOf (useParser khmer)) × Ready (useParser khmer) (lent wides bytes firsts) (now oscalars) (now oclasses) (now oclusters) ⌝ }
+    ensures { λ r. ⌜ ReachedIn (useParser khmer) mode (lent (wides .entry) (bytes .entry) (firsts .entry)) (oscalars .entry) (oclasses .entry) (oclusters .entry) (oscalars .exit) (oclasses .exit) (oclusters .exit) r ⌝ }
 {
-    let joins = joins_myanmar(parser);
-    let mut i: usize = 0;
-    let mut row: usize = 0;
-    let mut clusters: usize = 0;
-    let mut stop: usize = 32;
-    let mut o: usize = 0;
-    while i < scalars.len() {
-        if o == stop {
-            row = 0;
-            stop = o + 32;
-            i = back(mode, i);
+    let scalars = wides[0];
+    let kinds = bytes[1];
+    let breaks = bytes[0];
+    let categories = bytes[3];
+    let emojis = bytes[7];
+    let selectors = bytes[9];
+    let n = length32(scalars);
+    let mut g = Going::START;
+    while g.goes_on(n) {
+        if g.is_full() {
+            g = g.refill(mode);
         } else {
-            let x = scalar_of(scalars, kinds, breaks, categories, emojis, selectors, i);
-            let v = cell(
-                joins,
-                table,
-                x,
-                place_myanmar(
-                    parser,
-                    mode,
-                    scalars,
-                    kinds,
-                    breaks,
-                    categories,
-                    emojis,
-                    selectors,
-                    i,
-                    row,
-                ),
-                row,
-            );
-            let what = (v / 16 % 4) as usize;
-            if what == 3 {
-                if row == 0 {
-                    return Stand {
-                        at: i,
-                        clusters,
-                        characters: o,
-                    };
-                }
-                row = 0;
-            } else {
-                row = (v / 64) as usize;
-                i += 1;
-                if what != 2 {
-                    clusters += what;
-                    stop = stop_of(what, o, stop);
-                    oscalars[o] = x;
-                    oclasses[o] = (v % 16) as u8;
-                    oclusters[o] = number(clusters);
-                    o += 1;
-                }
+            let i = g.at;
+            let row = g.row;
+            let t = token_at(scalars, kinds, breaks, categories, emojis, selectors, i);
+            let x = token::scalar(t);
+            let v = cell(true, table, x, use_index(khmer, t, row), row);
+            if gives_up(v, row) {
+                return g.stand();
             }
+            g = g.turn(v, x, oscalars, oclasses, oclusters);
         }
     }
-    if o == stop {
-        return Stand {
-            at: back(mode, i),
-            clusters,
-            characters: o,
-        };
-    }
-    Stand {
-        at: i,
-        clusters,
-        characters: o,
-    }
+    g.stand()
 }
 
-fn by_complex(
-    parser: Parser,
+// Each names its own table: a table is copied to the stack where the function that names it begins, so a function that named both would
+// copy both.
+fn by_complex<'s, 'a>(
     mode: Mode,
-    table: &[u16],
-    scalars: &[u32],
-    kinds: &[u8],
-    breaks: &[u8],
-    categories: &[u8],
-    emojis: &[u8],
-    selectors: &[u8],
+    wides: &'s [&'a [u32]; 2],
+    bytes: &'s [&'a [u8]; 15],
+    firsts: &'a [u16],
     oscalars: &mut [u32],
     oclasses: &mut [u8],
     oclusters: &mut [u16],
 ) -> Stand
-    requires { ⌜ Roomy (seenIn (now scalars) (now kinds) (now breaks) (now categories) (now emojis) (now selectors)) (now oscalars) (now oclasses) (now oclusters) × ((now table ≡ tableOf parser) × (Regular parser (seenIn (now scalars) (now kinds) (now breaks) (now categories) (now emojis) (now selectors)) × (Even (now scalars) (now kinds) (now breaks) (now categories) (now emojis) (now selectors) × (parser ≡ Complex)))) ⌝ }
-    ensures { λ r. ⌜ Running parser mode (seenIn (now (scalars .entry)) (now (kinds .entry)) (now (breaks .entry)) (now (categories .entry)) (now (emojis .entry)) (now (selectors .entry))) (now (oscalars .entry)) (now (oclasses .entry)) (now (oclusters .entry)) (now (oscalars .exit)) (now (oclasses .exit)) (now (oclusters .exit)) (r .at) (r .clusters) (r .characters) ⌝ }
+    requires { ⌜ Ready Complex (lent wides bytes firsts) (now oscalars) (now oclasses) (now oclusters) ⌝ }
+    ensures { λ r. ⌜ ReachedIn Complex mode (lent (wides .entry) (bytes .entry) (firsts .entry)) (oscalars .entry) (oclasses .entry) (oclusters .entry) (oscalars .exit) (oclasses .exit) (oclusters .exit) r ⌝ }
 {
-    let joins = joins_complex(parser);
-    let mut i: usize = 0;
-    let mut row: usize = 0;
-    let mut clusters: usize = 0;
-    let mut stop: usize = 32;
-    let mut o: usize = 0;
-    while i < scalars.len() {
-        if o == stop {
-            row = 0;
-            stop = o + 32;
-            i = back(mode, i);
-        } else {
-            let x = scalar_of(scalars, kinds, breaks, categories, emojis, selectors, i);
-            let v = cell(
-                joins,
-                table,
-                x,
-                place_complex(
-                    parser,
-                    mode,
-                    scalars,
-                    kinds,
-                    breaks,
-                    categories,
-                    emojis,
-                    selectors,
-                    i,
-                    row,
-                ),
-                row,
-            );
-            let what = (v / 16 % 4) as usize;
-            if what == 3 {
-                if row == 0 {
-                    return Stand {
-                        at: i,
-                        clusters,
-                        characters: o,
-                    };
-                }
-                row = 0;
-            } else {
-                row = (v / 64) as usize;
-                i += 1;
-                if what != 2 {
-                    clusters += what;
-                    stop = stop_of(what, o, stop);
-                    oscalars[o] = x;
-                    oclasses[o] = (v % 16) as u8;
-                    oclusters[o] = number(clusters);
-                    o += 1;
-                }
-            }
-        }
-    }
-    if o == stop {
-        return Stand {
-            at: back(mode, i),
-            clusters,
-            characters: o,
-        };
-    }
-    Stand {
-        at: i,
-        clusters,
-        characters: o,
-    }
-}
-
-fn by_khmer(
-    parser: Parser,
-    mode: Mode,
-    table: &[u16],
-    scalars: &[u32],
-    kinds: &[u8],
-    breaks: &[u8],
-    categories: &[u8],
-    emojis: &[u8],
-    selectors: &[u8],
-    oscalars: &mut [u32],
-    oclasses: &mut [u8],
-    oclusters: &mut [u16],
-) -> Stand
-    requires { ⌜ Roomy (seenIn (now scalars) (now kinds) (now breaks) (now categories) (now emojis) (now selectors)) (now oscalars) (now oclasses) (now oclusters) × ((now table ≡ tableOf parser) × (Regular parser (seenIn (now scalars) (now kinds) (now breaks) (now categories) (now emojis) (now selectors)) × (Even (now scalars) (now kinds) (now breaks) (now categories) (now emojis) (now selectors) × (parser ≡ Khmer)))) ⌝ }
-    ensures { λ r. ⌜ Running parser mode (seenIn (now (scalars .entry)) (now (kinds .entry)) (now (breaks .entry)) (now (categories .entry)) (now (emojis .entry)) (now (selectors .entry))) (now (oscalars .entry)) (now (oclasses .entry)) (now (oclusters .entry)) (now (oscalars .exit)) (now (oclasses .exit)) (now (oclusters .exit)) (r .at) (r .clusters) (r .characters) ⌝ }
-{
-    let joins = joins_khmer(parser);
-    let mut i: usize = 0;
-    let mut row: usize = 0;
-    let mut clusters: usize = 0;
-    let mut stop: usize = 32;
-    let mut o: usize = 0;
-    while i < scalars.len() {
-        if o == stop {
-            row = 0;
-            stop = o + 32;
-            i = back(mode, i);
-        } else {
-            let x = scalar_of(scalars, kinds, breaks, categories, emojis, selectors, i);
-            let v = cell(
-                joins,
-                table,
-                x,
-                place_khmer(
-                    parser,
-                    mode,
-                    scalars,
-                    kinds,
-                    breaks,
-                    categories,
-                    emojis,
-                    selectors,
-                    i,
-                    row,
-                ),
-                row,
-            );
-            let what = (v / 16 % 4) as usize;
-            if what == 3 {
-                if row == 0 {
-                    return Stand {
-                        at: i,
-                        clusters,
-                        characters: o,
-                    };
-                }
-                row = 0;
-            } else {
-                row = (v / 64) as usize;
-                i += 1;
-                if what != 2 {
-                    clusters += what;
-                    stop = stop_of(what, o, stop);
-                    oscalars[o] = x;
-                    oclasses[o] = (v % 16) as u8;
-                    oclusters[o] = number(clusters);
-                    o += 1;
-                }
-            }
-        }
-    }
-    if o == stop {
-        return Stand {
-            at: back(mode, i),
-            clusters,
-            characters: o,
-        };
-    }
-    Stand {
-        at: i,
-        clusters,
-        characters: o,
-    }
-}
-
-// Each names its own table: a table is copied to the stack where the function that names it begins, so one function that named all
-// four would copy all four.
-fn simple_tabled(
-    parser: Parser,
-    mode: Mode,
-    scalars: &[u32],
-    kinds: &[u8],
-    breaks: &[u8],
-    categories: &[u8],
-    emojis: &[u8],
-    selectors: &[u8],
-    oscalars: &mut [u32],
-    oclasses: &mut [u8],
-    oclusters: &mut [u16],
-) -> Stand
-    requires { ⌜ Roomy (seenIn (now scalars) (now kinds) (now breaks) (now categories) (now emojis) (now selectors)) (now oscalars) (now oclasses) (now oclusters) × (Regular parser (seenIn (now scalars) (now kinds) (now breaks) (now categories) (now emojis) (now selectors)) × (Even (now scalars) (now kinds) (now breaks) (now categories) (now emojis) (now selectors) × (parser ≡ Simple))) ⌝ }
-    ensures { λ r. ⌜ Running parser mode (seenIn (now (scalars .entry)) (now (kinds .entry)) (now (breaks .entry)) (now (categories .entry)) (now (emojis .entry)) (now (selectors .entry))) (now (oscalars .entry)) (now (oclasses .entry)) (now (oclusters .entry)) (now (oscalars .exit)) (now (oclasses .exit)) (now (oclusters .exit)) (r .at) (r .clusters) (r .characters) ⌝ }
-{
-    by_simple(
-        parser,
+    by_use(
+        false,
         mode,
-        &crate::simple_table::SIMPLE,
-        scalars,
-        kinds,
-        breaks,
-        categories,
-        emojis,
-        selectors,
+        &COMPLEX,
+        wides,
+        bytes,
+        firsts,
         oscalars,
         oclasses,
         oclusters,
     )
 }
 
-fn myanmar_tabled(
-    parser: Parser,
+fn by_khmer<'s, 'a>(
     mode: Mode,
-    scalars: &[u32],
-    kinds: &[u8],
-    breaks: &[u8],
-    categories: &[u8],
-    emojis: &[u8],
-    selectors: &[u8],
+    wides: &'s [&'a [u32]; 2],
+    bytes: &'s [&'a [u8]; 15],
+    firsts: &'a [u16],
     oscalars: &mut [u32],
     oclasses: &mut [u8],
     oclusters: &mut [u16],
 ) -> Stand
-    requires { ⌜ Roomy (seenIn (now scalars) (now kinds) (now breaks) (now categories) (now emojis) (now selectors)) (now oscalars) (now oclasses) (now oclusters) × (Regular parser (seenIn (now scalars) (now kinds) (now breaks) (now categories) (now emojis) (now selectors)) × (Even (now scalars) (now kinds) (now breaks) (now categories) (now emojis) (now selectors) × (parser ≡ Myanmar))) ⌝ }
-    ensures { λ r. ⌜ Running parser mode (seenIn (now (scalars .entry)) (now (kinds .entry)) (now (breaks .entry)) (now (categories .entry)) (now (emojis .entry)) (now (selectors .entry))) (now (oscalars .entry)) (now (oclasses .entry)) (now (oclusters .entry)) (now (oscalars .exit)) (now (oclasses .exit)) (now (oclusters .exit)) (r .at) (r .clusters) (r .characters) ⌝ }
+    requires { ⌜ Ready Khmer (lent wides bytes firsts) (now oscalars) (now oclasses) (now oclusters) ⌝ }
+    ensures { λ r. ⌜ ReachedIn Khmer mode (lent (wides .entry) (bytes .entry) (firsts .entry)) (oscalars .entry) (oclasses .entry) (oclusters .entry) (oscalars .exit) (oclasses .exit) (oclusters .exit) r ⌝ }
 {
-    by_myanmar(
-        parser,
+    by_use(
+        true,
         mode,
-        &crate::myanmar_table::MYANMAR,
-        scalars,
-        kinds,
-        breaks,
-        categories,
-        emojis,
-        selectors,
+        &KHMER,
+        wides,
+        bytes,
+        firsts,
         oscalars,
         oclasses,
         oclusters,
     )
 }
 
-fn complex_tabled(
-    parser: Parser,
-    mode: Mode,
-    scalars: &[u32],
-    kinds: &[u8],
-    breaks: &[u8],
-    categories: &[u8],
-    emojis: &[u8],
-    selectors: &[u8],
-    oscalars: &mut [u32],
-    oclasses: &mut [u8],
-    oclusters: &mut [u16],
-) -> Stand
-    requires { ⌜ Roomy (seenIn (now scalars) (now kinds) (now breaks) (now categories) (now emojis) (now selectors)) (now oscalars) (now oclasses) (now oclusters) × (Regular parser (seenIn (now scalars) (now kinds) (now breaks) (now categories) (now emojis) (now selectors)) × (Even (now scalars) (now kinds) (now breaks) (now categories) (now emojis) (now selectors) × (parser ≡ Complex))) ⌝ }
-    ensures { λ r. ⌜ Running parser mode (seenIn (now (scalars .entry)) (now (kinds .entry)) (now (breaks .entry)) (now (categories .entry)) (now (emojis .entry)) (now (selectors .entry))) (now (oscalars .entry)) (now (oclasses .entry)) (now (oclusters .entry)) (now (oscalars .exit)) (now (oclasses .exit)) (now (oclusters .exit)) (r .at) (r .clusters) (r .characters) ⌝ }
-{
-    by_complex(
-        parser,
-        mode,
-        &crate::complex_table::COMPLEX,
-        scalars,
-        kinds,
-        breaks,
-        categories,
-        emojis,
-        selectors,
-        oscalars,
-        oclasses,
-        oclusters,
-    )
-}
-
-fn khmer_tabled(
-    parser: Parser,
-    mode: Mode,
-    scalars: &[u32],
-    kinds: &[u8],
-    breaks: &[u8],
-    categories: &[u8],
-    emojis: &[u8],
-    selectors: &[u8],
-    oscalars: &mut [u32],
-    oclasses: &mut [u8],
-    oclusters: &mut [u16],
-) -> Stand
-    requires { ⌜ Roomy (seenIn (now scalars) (now kinds) (now breaks) (now categories) (now emojis) (now selectors)) (now oscalars) (now oclasses) (now oclusters) × (Regular parser (seenIn (now scalars) (now kinds) (now breaks) (now categories) (now emojis) (now selectors)) × (Even (now scalars) (now kinds) (now breaks) (now categories) (now emojis) (now selectors) × (parser ≡ Khmer))) ⌝ }
-    ensures { λ r. ⌜ Running parser mode (seenIn (now (scalars .entry)) (now (kinds .entry)) (now (breaks .entry)) (now (categories .entry)) (now (emojis .entry)) (now (selectors .entry))) (now (oscalars .entry)) (now (oclasses .entry)) (now (oclusters .entry)) (now (oscalars .exit)) (now (oclasses .exit)) (now (oclusters .exit)) (r .at) (r .clusters) (r .characters) ⌝ }
-{
-    by_khmer(
-        parser,
-        mode,
-        &crate::khmer_table::KHMER,
-        scalars,
-        kinds,
-        breaks,
-        categories,
-        emojis,
-        selectors,
-        oscalars,
-        oclasses,
-        oclusters,
-    )
-}
-
-// A run over a text whose records are the tokens.
+// A run over a text whose records are the tokens, as far as the table goes.
 pub(crate) fn direct<'s, 'a>(
     parser: Parser,
     mode: Mode,
@@ -830,80 +316,13 @@ pub(crate) fn direct<'s, 'a>(
     oclasses: &mut [u8],
     oclusters: &mut [u16],
 ) -> Stand
-    requires { ⌜ Sound parser (lent wides bytes firsts) × (Direct mode parser (lent wides bytes firsts) × Roomy (streamOf mode parser (lent wides bytes firsts)) (now oscalars) (now oclasses) (now oclusters)) ⌝ }
-    ensures { λ r. ⌜ Running parser mode (streamOf mode parser (lent (wides .entry) (bytes .entry) (firsts .entry))) (now (oscalars .entry)) (now (oclasses .entry)) (now (oclusters .entry)) (now (oscalars .exit)) (now (oclasses .exit)) (now (oclusters .exit)) (r .at) (r .clusters) (r .characters) ⌝ }
+    requires { ⌜ Ready parser (lent wides bytes firsts) (now oscalars) (now oclasses) (now oclusters) ⌝ }
+    ensures { λ r. ⌜ ReachedIn parser mode (lent (wides .entry) (bytes .entry) (firsts .entry)) (oscalars .entry) (oclasses .entry) (oclusters .entry) (oscalars .exit) (oclasses .exit) (oclusters .exit) r ⌝ }
 {
     match parser {
-        Parser::Simple => simple_tabled(
-            parser,
-            mode,
-            wides[0],
-            bytes[0],
-            bytes[0],
-            bytes[3],
-            bytes[5],
-            bytes[9],
-            oscalars,
-            oclasses,
-            oclusters,
-        ),
-        Parser::Myanmar => myanmar_tabled(
-            parser,
-            mode,
-            wides[0],
-            bytes[2],
-            bytes[0],
-            bytes[3],
-            bytes[6],
-            bytes[9],
-            oscalars,
-            oclasses,
-            oclusters,
-        ),
-        Parser::Complex => complex_tabled(
-            parser,
-            mode,
-            wides[0],
-            bytes[1],
-            bytes[0],
-            bytes[3],
-            bytes[7],
-            bytes[9],
-            oscalars,
-            oclasses,
-            oclusters,
-        ),
-        Parser::Khmer => khmer_tabled(
-            parser,
-            mode,
-            wides[0],
-            bytes[1],
-            bytes[0],
-            bytes[3],
-            bytes[7],
-            bytes[9],
-            oscalars,
-            oclasses,
-            oclusters,
-        ),
-    }
-}
-
-// Whether the records are the tokens, and regular ones.
-pub(crate) fn is_direct<'s, 'a>(
-    parser: Parser,
-    mode: Mode,
-    wides: &'s [&'a [u32]; 2],
-    bytes: &'s [&'a [u8]; 15],
-    firsts: &'a [u16],
-) -> bool
-    requires { ⌜ Sound parser (lent wides bytes firsts) ⌝ }
-    ensures { λ r. ⌜ (r ≡ true → Direct mode parser (lent (wides .entry) (bytes .entry) (firsts .entry))) ⌝ }
-{
-    match parser {
-        Parser::Simple => true,
-        Parser::Myanmar => all_myanmar(wides[0], bytes[2], bytes[6]),
-        Parser::Complex => all_use(false, wides[0], bytes[1], bytes[7], bytes[10]),
-        Parser::Khmer => all_use(true, wides[0], bytes[1], bytes[7], bytes[10]),
+        Parser::Simple => by_simple(mode, wides, bytes, firsts, oscalars, oclasses, oclusters),
+        Parser::Myanmar => by_myanmar(mode, wides, bytes, firsts, oscalars, oclasses, oclusters),
+        Parser::Complex => by_complex(mode, wides, bytes, firsts, oscalars, oclasses, oclusters),
+        Parser::Khmer => by_khmer(mode, wides, bytes, firsts, oscalars, oclasses, oclusters),
     }
 }

@@ -1,14 +1,11 @@
 // The public face: a stepping call and a full run for each parser, with every refusal.
 mod calls;
-mod complex_table;
 mod direct;
-mod khmer_table;
-mod myanmar_table;
+mod going;
+mod regular;
 mod runs;
-mod simple_table;
 mod streams;
-mod table;
-mod tame;
+mod tabled;
 
 use classes::Mode;
 use parse::Cluster;

@@ -2,6 +2,7 @@
 mod pieces;
 
 use pieces::gives_none;
+pub use pieces::is_split_sign;
 use pieces::is_whole;
 use pieces::own_token;
 use pieces::piece;

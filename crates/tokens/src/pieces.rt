@@ -13,7 +13,8 @@ ghost use Rattle.records.specs.Text.{lent};
 ghost use Rattle.records.specs.Refusals.{member};
 ghost use Rattle.tokens.specs.Tokens.{sourceOf, ownToken, partToken, pieceCount, piecesIn, givesNone, Whole, Piece};
 
-fn is_split_sign(khmer: bool, x: u32) -> bool
+// Whether a scalar is one of the five signs that Khmer splits.
+pub fn is_split_sign(khmer: bool, x: u32) -> bool
     ensures { λ r. ⌜ r ≡ (khmer && member khmerSigns x) ⌝ }
 {
     if khmer {

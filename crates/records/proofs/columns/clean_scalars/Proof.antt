@@ -1,6 +1,6 @@
 use Rattle.records.specs.Text.{cell}
 use Rattle.records.specs.Sweep.{CleanScalar}
-use Rattle.records.proofs.Passing.{clean-more, clean-all}
+use Rattle.records.proofs.Passing.{joined-more, clean-all}
 use Prim.Native.Nat.{ℕ, _-_, _<_}
 use mathlib.Core.Path.{_≡_}
 use native.Mathlib.Omega.{arith}
@@ -38,7 +38,7 @@ loop-less : tie.Need-loop-less Inv-loop μ-loop
 loop-less c = search needs
 
 loop-again : tie.Need-loop-again Inv-loop μ-loop
-loop-again c = clean-more (c .before .before .before .before .before .before .args .column .now) _ _ _ _ (c .before .before .before .before .loop .inv) (c .before .oddness .ensures) (c .joined .ensures .0) (c .joined .ensures .1)
+loop-again c = joined-more _ _ _ _ _ (c .before .before .before .before .loop .inv) (c .before .oddness .ensures) (c .joined .ensures)
 
 returns : tie.Need-returns Inv-loop μ-loop
 returns c = λ e. clean-all (c .before .before .before .args .column .now) _ _ (c .before .loop .inv) (c .loop-test .left) (eqb-true _ _ e)

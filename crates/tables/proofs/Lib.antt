@@ -1,0 +1,12 @@
+pub mod Cells
+pub mod Pairs
+pub mod SimpleRules
+pub mod MyanmarRules
+pub mod ComplexRules
+pub mod KhmerRules
+pub mod SimpleFine
+pub mod MyanmarFine
+pub mod UseFine
+pub mod Kinzi
+pub mod MyanmarCalm
+pub mod Cited
