@@ -5,16 +5,17 @@ use mathlib.Core.Bool.{Bool, true, false}
 use mathlib.Core.List.{List}
 use native.Mathlib.Omega.{arith}
 use lib.ListN.{length}
-use denote.Ref.{RefT, now}
 use Rattle.classes.specs.declared.Mode.{Mode}
 use Rattle.records.specs.Text.{Text}
 use Rattle.records.specs.Sound.{Sound}
 use Rattle.records.specs.declared.Parser.{Parser}
+use Rattle.records.specs.declared.Verdict.the-variants.{Accepted}
+use Rattle.tokens.specs.Tokens.{streamOf}
 use Rattle.parse.specs.declared.Parse.{Parse}
 use Rattle.parse.specs.declared.Pushed.{Pushed}
-use Rattle.segment.specs.Runs.{callsAt, callsOf, characters, Roomy}
-use Rattle.segment.specs.Seen.{Direct}
-use Rattle.segment.specs.Standing.{Column, Running, Stood, Ready, Reached, ReachedIn, RoomyIn, Begun, Stands, Onward, Finished}
+use Rattle.segment.specs.Runs.{callsAt, callsOf, characters, Ran, Roomy}
+use Rattle.segment.specs.Seen.{seenBy, Direct}
+use Rattle.segment.specs.Standing.{Column, Running, Stood, Ready}
 use Rattle.segment.specs.declared.RunAnswer.{RunAnswer}
 use Rattle.segment.specs.declared.going.Stand.{Stand}
 use Rattle.segment.proofs.Regulars.{even}
@@ -60,40 +61,50 @@ room-made stream os oc on n room inner short e ei er h = record {
   cluster = omega arith;
 }
 
--- The same with the lent columns as references
+-- what the functions of a run cite
 
-module _ (os oc on os′ oc′ on′ : RefT (List ℕ)) where
+abbrev At : Parser → Mode → List ℕ → List ℕ → List ℕ → List ℕ → List ℕ → List ℕ → List ℕ → Stand → Type 0
+At parser mode stream s₀ c₀ n₀ s c n r = Running parser mode stream s₀ c₀ n₀ s c n (r .at) (r .clusters) (r .characters)
+
+-- every run that stood at f stands at r now
+abbrev On : Parser → Mode → List ℕ → List ℕ → List ℕ → List ℕ → Stand → List ℕ → List ℕ → List ℕ → Stand → Type 0
+On parser mode stream s c n f s′ c′ n′ r = (s₀ c₀ n₀ : List ℕ) → Roomy stream s₀ c₀ n₀ → At parser mode stream s₀ c₀ n₀ s c n f → At parser mode stream s₀ c₀ n₀ s′ c′ n′ r
+
+-- every run that stood at f is over
+abbrev Done : Parser → Mode → List ℕ → List ℕ → List ℕ → List ℕ → Stand → RunAnswer → List ℕ → List ℕ → List ℕ → Type 0
+Done parser mode stream s c n f a s′ c′ n′ = (s₀ c₀ n₀ : List ℕ) → Roomy stream s₀ c₀ n₀ → At parser mode stream s₀ c₀ n₀ s c n f → Ran Accepted (callsOf parser mode stream) s₀ c₀ n₀ a s′ c′ n′
+
+pub ready-direct : (parser : Parser) (mode : Mode) (t : Text) (s c n : List ℕ) → Direct mode parser t → Sound parser t → Roomy (streamOf mode parser t) s c n → Ready parser t s c n
+ready-direct parser mode t s c n d sound r = record {
+  even = even parser t sound parser;
+  regular = d .regular;
+  roomy = subst (λ l. Roomy l s c n) (d .same) r;
+}
+
+pub stands-in : (parser : Parser) (mode : Mode) (stream text s c n : List ℕ) (f : Stand) → text ≡ stream → Stood parser mode stream s c n f → Stood parser mode text s c n f
+stands-in parser mode stream text s c n f e w = subst (λ l. Stood parser mode l s c n f) (sym e) w
+
+module _ (s c n s′ c′ n′ : List ℕ) where
   -- what a loop gives, by its parser's own name
-  pub reached-as : (p q : Parser) (mode : Mode) (t : Text) (s : Stand) → p ≡ q → ReachedIn q mode t os oc on os′ oc′ on′ s → ReachedIn p mode t os oc on os′ oc′ on′ s
-  reached-as p q mode t s e r = subst (λ p. ReachedIn p mode t os oc on os′ oc′ on′ s) (sym e) r
+  pub reached-as : (p q : Parser) (mode : Mode) (t : Text) (r : Stand) → p ≡ q → At q mode (seenBy q t) s c n s′ c′ n′ r → At p mode (seenBy p t) s c n s′ c′ n′ r
+  reached-as p q mode t r e w = subst (λ p. At p mode (seenBy p t) s c n s′ c′ n′ r) (sym e) w
 
   module _ (parser : Parser) (mode : Mode) (t : Text) (d : Direct mode parser t) where
-    pub ready-direct : Sound parser t → RoomyIn parser mode t os oc on → Ready parser t (now os) (now oc) (now on)
-    ready-direct s r = record {
-      even = even parser t s parser;
-      regular = d .regular;
-      roomy = subst (λ l. Roomy l (now os) (now oc) (now on)) (d .same) r;
-    }
-
-    pub begun-direct : (s : Stand) → ReachedIn parser mode t os oc on os′ oc′ on′ s → Begun parser mode t os oc on os′ oc′ on′ s
-    begun-direct s r = subst (λ l. Reached parser mode l os oc on os′ oc′ on′ s) (sym (d .same)) r
+    pub begun-direct : (r : Stand) → At parser mode (seenBy parser t) s c n s′ c′ n′ r → At parser mode (streamOf mode parser t) s c n s′ c′ n′ r
+    begun-direct r w = subst (λ l. At parser mode l s c n s′ c′ n′ r) (sym (d .same)) w
 
   -- a run from the start by the table, of a run that had not begun
-  pub onward-from : (parser p : Parser) (mode : Mode) (stream : List ℕ) (s r : Stand) → parser ≡ p → s .at ≤ 0 → Reached p mode stream os oc on os′ oc′ on′ r → Onward parser mode stream os oc on s os′ oc′ on′ r
-  onward-from parser p mode stream s r e z q s₀ c₀ n₀ roomy w =
-      let a : s .at ≡ 0 = omega arith in
-      run-on parser mode stream s₀ c₀ n₀ (now os) (now oc) (now on) (s .clusters) (s .characters)
-      (subst (λ at. Running parser mode stream s₀ c₀ n₀ (now os) (now oc) (now on) at (s .clusters) (s .characters)) a w)
-      (now os′) (now oc′) (now on′) (r .at) (r .clusters) (r .characters)
-      (subst (λ p. Reached p mode stream os oc on os′ oc′ on′ r) (sym e) q)
+  pub onward-from : (parser p : Parser) (mode : Mode) (stream : List ℕ) (f r : Stand) → parser ≡ p → f .at ≤ 0 → At p mode stream s c n s′ c′ n′ r → On parser mode stream s c n f s′ c′ n′ r
+  onward-from parser p mode stream f r e z q s₀ c₀ n₀ roomy w =
+      let a : f .at ≡ 0 = omega arith in
+      run-on parser mode stream s₀ c₀ n₀ s c n (f .clusters) (f .characters)
+      (subst (λ at. Running parser mode stream s₀ c₀ n₀ s c n at (f .clusters) (f .characters)) a w)
+      s′ c′ n′ (r .at) (r .clusters) (r .characters) (subst (λ p. At p mode stream s c n s′ c′ n′ r) (sym e) q)
 
-  module _ (parser : Parser) (mode : Mode) (stream text : List ℕ) (e : text ≡ stream) (s : Stand) where
-    pub stands-in : Stands parser mode stream os oc on s → Stands parser mode text os oc on s
-    stands-in w = subst (λ l. Stands parser mode l os oc on s) (sym e) w
-
-    module _ (r : Stand) (o : Onward parser mode text os oc on s os′ oc′ on′ r) where
-      pub stands-on : Stands parser mode stream os oc on s → Stands parser mode text os′ oc′ on′ r
-      stands-on w = let v = stands-in w in record {
+  module _ (parser : Parser) (mode : Mode) (stream text : List ℕ) (e : text ≡ stream) (f : Stand) where
+    module _ (r : Stand) (o : On parser mode text s c n f s′ c′ n′ r) where
+      pub stands-on : Stood parser mode stream s c n f → Stood parser mode text s′ c′ n′ r
+      stands-on w = let v = stands-in parser mode stream text s c n f e w in record {
         scalars₀ = v .scalars₀;
         classes₀ = v .classes₀;
         clusters₀ = v .clusters₀;
@@ -101,5 +112,5 @@ module _ (os oc on os′ oc′ on′ : RefT (List ℕ)) where
         running = o (v .scalars₀) (v .classes₀) (v .clusters₀) (v .roomy) (v .running);
       }
 
-      pub finished-on : (a : RunAnswer) (os″ oc″ on″ : RefT (List ℕ)) → Finished parser mode text os′ oc′ on′ r a os″ oc″ on″ → Finished parser mode stream os oc on s a os″ oc″ on″
-      finished-on a os″ oc″ on″ f = subst (λ l. Finished parser mode l os oc on s a os″ oc″ on″) e (λ s₀ c₀ n₀ roomy w. f s₀ c₀ n₀ roomy (o s₀ c₀ n₀ roomy w))
+      pub finished-on : (a : RunAnswer) (s″ c″ n″ : List ℕ) → Done parser mode text s′ c′ n′ r a s″ c″ n″ → Done parser mode stream s c n f a s″ c″ n″
+      finished-on a s″ c″ n″ g = subst (λ l. Done parser mode l s c n f a s″ c″ n″) e (λ s₀ c₀ n₀ roomy w. g s₀ c₀ n₀ roomy (o s₀ c₀ n₀ roomy w))

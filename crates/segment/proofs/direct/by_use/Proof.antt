@@ -54,14 +54,14 @@ is-full-requires c κs = search needs
 
 refill-requires : tie.Need-refill-requires Inv-loop μ-loop
 unfolding textIn
-refill-requires c κs = ((c .before .before .before .before .loop .inv (c .before .before .before .before .before .before .before .before .before .before .before .before .before .before .before .before .before .pre .1 .roomy) (c .before .before .before .before .before .before .before .before .before .before .before .before .before .before .before .before .before .pre .1 .regular)) .begun (is-filled _ _ (c .before .is-full .ensures) (c .if2 .taken)), omega (arith, (c .before .before .before .before .loop .inv (c .before .before .before .before .before .before .before .before .before .before .before .before .before .before .before .before .before .pre .1 .roomy) (c .before .before .before .before .before .before .before .before .before .before .before .before .before .before .before .before .before .pre .1 .regular)) .low, (c .before .before .before .before .loop .inv (c .before .before .before .before .before .before .before .before .before .before .before .before .before .before .before .before .before .pre .1 .roomy) (c .before .before .before .before .before .before .before .before .before .before .before .before .before .before .before .before .before .pre .1 .regular)) .inside, (c .before .before .before .before .before .before .before .before .before .before .before .before .before .before .before .before .before .pre .1 .roomy) .short))
+refill-requires c κs = ((c .before .before .before .before .loop .inv (c .before .before .before .before .before .before .before .before .before .before .before .before .before .before .before .before .before .pre .1 .roomy) (c .before .before .before .before .before .before .before .before .before .before .before .before .before .before .before .before .before .pre .1 .regular)) .begun (is-filled (c .before .before .before .before .loop .g) _ (c .before .is-full .ensures) (c .if2 .taken)), omega (arith, (c .before .before .before .before .loop .inv (c .before .before .before .before .before .before .before .before .before .before .before .before .before .before .before .before .before .pre .1 .roomy) (c .before .before .before .before .before .before .before .before .before .before .before .before .before .before .before .before .before .pre .1 .regular)) .low, (c .before .before .before .before .loop .inv (c .before .before .before .before .before .before .before .before .before .before .before .before .before .before .before .before .before .pre .1 .roomy) (c .before .before .before .before .before .before .before .before .before .before .before .before .before .before .before .before .before .pre .1 .regular)) .inside, (c .before .before .before .before .before .before .before .before .before .before .before .before .before .before .before .before .before .pre .1 .roomy) .short))
 
 loop-less : tie.Need-loop-less Inv-loop μ-loop
-loop-less c = refill-falls _ _ _ _ (is-filled _ _ (c .before .before .is-full .ensures) (c .before .if2 .taken)) (c .refill .ensures)
+loop-less c = refill-falls _ _ _ _ (is-filled (c .before .before .before .before .before .loop .g) _ (c .before .before .is-full .ensures) (c .before .if2 .taken)) (c .refill .ensures)
 
 loop-again : tie.Need-loop-again Inv-loop μ-loop
 unfolding textIn
-loop-again c = λ r q. goes-refill _ _ _ _ _ _ r q _ _ _ _ (c .before .before .before .before .before .loop .inv r q) _ (is-filled _ _ (c .before .before .is-full .ensures) (c .before .if2 .taken)) (c .refill .ensures)
+loop-again c = λ r q. goes-refill _ _ _ _ _ _ r q _ _ _ _ (c .before .before .before .before .before .loop .inv r q) _ (is-filled (c .before .before .before .before .before .loop .g) _ (c .before .before .is-full .ensures) (c .before .if2 .taken)) (c .refill .ensures)
 
 token-at-requires : tie.Need-token-at-requires Inv-loop μ-loop
 unfolding textIn
@@ -76,7 +76,7 @@ use-index-requires c κs = goes-row _ _ _ _ _ _ (c .before .before .before .befo
 
 cell-requires : tie.Need-cell-requires Inv-loop μ-loop
 unfolding textIn
-cell-requires c κs = (cell-index (useParser (c .before .before .before .before .before .before .before .before .before .before .before .before .before .before .before .before .before .before .before .before .args .khmer)) (c .before .before .before .before .before .before .before .before .before .before .before .before .before .before .before .before .before .before .before .before .args .mode) (seenBy (useParser (c .before .before .before .before .before .before .before .before .before .before .before .before .before .before .before .before .before .before .before .before .args .khmer)) (textIn (c .before .before .before .before .before .before .before .before .before .before .before .before .before .before .before .before .before .before .before .before .args .wides .now) (c .before .before .before .before .before .before .before .before .before .before .before .before .before .before .before .before .before .before .before .before .args .bytes .now) (c .before .before .before .before .before .before .before .before .before .before .before .before .before .before .before .before .before .before .before .before .args .firsts .now))) (c .before .before .before .before .before .before .before .loop .g .at) (c .before .before .before .before .before .before .before .loop .g .row) _ (c .before .before .before .before .before .before .before .before .before .before .before .before .before .before .before .before .before .before .before .before .args .table .now) (c .before .before .before .before .before .before .before .before .before .before .before .before .before .before .before .before .before .before .before .before .pre .1 .regular) (omega (arith, (turn-inside (c .before .before .before .before .before .before .before .loop .g) (c .before .before .before .before .before .before .before .before .length32 .result) _ _ (c .before .before .before .before .before .before .goes-on .ensures) (c .before .before .before .before .before .if1 .taken) (c .before .before .before .before .is-full .ensures) (c .before .before .before .if2 .left)), c .before .before .before .before .before .before .before .before .length32 .ensures .0, seen-long (useParser (c .before .before .before .before .before .before .before .before .before .before .before .before .before .before .before .before .before .before .before .before .args .khmer)) (textIn (c .before .before .before .before .before .before .before .before .before .before .before .before .before .before .before .before .before .before .before .before .args .wides .now) (c .before .before .before .before .before .before .before .before .before .before .before .before .before .before .before .before .before .before .before .before .args .bytes .now) (c .before .before .before .before .before .before .before .before .before .before .before .before .before .before .before .before .before .before .before .before .args .firsts .now)))) ((c .before .before .before .before .before .before .before .loop .inv (c .before .before .before .before .before .before .before .before .before .before .before .before .before .before .before .before .before .before .before .before .pre .1 .roomy) (c .before .before .before .before .before .before .before .before .before .before .before .before .before .before .before .before .before .before .before .before .pre .1 .regular)) .row-in) (c .before .before .before .before .before .before .before .before .before .before .before .before .before .before .before .before .before .before .before .before .pre .0) (index-use (c .before .before .before .before .before .before .before .before .before .before .before .before .before .before .before .before .before .before .before .before .args .khmer) _ _ _ _ _ _ (c .use-index .ensures) (c .before .before .token-at .ensures ∙ ap (λ l. tokenAt l _) (kinds-use (c .before .before .before .before .before .before .before .before .before .before .before .before .before .before .before .before .before .before .before .before .args .khmer) (textIn (c .before .before .before .before .before .before .before .before .before .before .before .before .before .before .before .before .before .before .before .before .args .wides .now) (c .before .before .before .before .before .before .before .before .before .before .before .before .before .before .before .before .before .before .before .before .args .bytes .now) (c .before .before .before .before .before .before .before .before .before .before .before .before .before .before .before .before .before .before .before .before .args .firsts .now))))), goes-row _ _ _ _ _ _ (c .before .before .before .before .before .before .before .before .before .before .before .before .before .before .before .before .before .before .before .before .pre .1 .roomy) (c .before .before .before .before .before .before .before .before .before .before .before .before .before .before .before .before .before .before .before .before .pre .1 .regular) _ _ _ _ (c .before .before .before .before .before .before .before .loop .inv (c .before .before .before .before .before .before .before .before .before .before .before .before .before .before .before .before .before .before .before .before .pre .1 .roomy) (c .before .before .before .before .before .before .before .before .before .before .before .before .before .before .before .before .before .before .before .before .pre .1 .regular)))
+cell-requires c κs = (cell-index (useParser (c .before .before .before .before .before .before .before .before .before .before .before .before .before .before .before .before .before .before .before .before .args .khmer)) (c .before .before .before .before .before .before .before .before .before .before .before .before .before .before .before .before .before .before .before .before .args .mode) (seenBy (useParser (c .before .before .before .before .before .before .before .before .before .before .before .before .before .before .before .before .before .before .before .before .args .khmer)) (textIn (c .before .before .before .before .before .before .before .before .before .before .before .before .before .before .before .before .before .before .before .before .args .wides .now) (c .before .before .before .before .before .before .before .before .before .before .before .before .before .before .before .before .before .before .before .before .args .bytes .now) (c .before .before .before .before .before .before .before .before .before .before .before .before .before .before .before .before .before .before .before .before .args .firsts .now))) (c .before .before .before .before .before .before .before .loop .g .at) (c .before .before .before .before .before .before .before .loop .g .row) _ (c .before .before .before .before .before .before .before .before .before .before .before .before .before .before .before .before .before .before .before .before .args .table .now) (c .before .before .before .before .before .before .before .before .before .before .before .before .before .before .before .before .before .before .before .before .pre .1 .regular) (omega (arith, (turn-inside (c .before .before .before .before .before .before .before .loop .g) (c .before .before .before .before .before .before .before .before .length32 .result) _ _ (c .before .before .before .before .before .before .goes-on .ensures) (c .before .before .before .before .before .if1 .taken) (c .before .before .before .before .is-full .ensures) (c .before .before .before .if2 .left)), c .before .before .before .before .before .before .before .before .length32 .ensures .0, seen-long (useParser (c .before .before .before .before .before .before .before .before .before .before .before .before .before .before .before .before .before .before .before .before .args .khmer)) (textIn (c .before .before .before .before .before .before .before .before .before .before .before .before .before .before .before .before .before .before .before .before .args .wides .now) (c .before .before .before .before .before .before .before .before .before .before .before .before .before .before .before .before .before .before .before .before .args .bytes .now) (c .before .before .before .before .before .before .before .before .before .before .before .before .before .before .before .before .before .before .before .before .args .firsts .now)))) ((c .before .before .before .before .before .before .before .loop .inv (c .before .before .before .before .before .before .before .before .before .before .before .before .before .before .before .before .before .before .before .before .pre .1 .roomy) (c .before .before .before .before .before .before .before .before .before .before .before .before .before .before .before .before .before .before .before .before .pre .1 .regular)) .row-in) (c .before .before .before .before .before .before .before .before .before .before .before .before .before .before .before .before .before .before .before .before .pre .0) (index-use (c .before .before .before .before .before .before .before .before .before .before .before .before .before .before .before .before .before .before .before .before .args .khmer) _ _ _ _ _ _ (c .use-index .ensures) (c .before .before .token-at .ensures ∙ ap (λ l. tokenAt l (c .before .before .before .before .before .before .before .loop .g .at)) (kinds-use (c .before .before .before .before .before .before .before .before .before .before .before .before .before .before .before .before .before .before .before .before .args .khmer) (textIn (c .before .before .before .before .before .before .before .before .before .before .before .before .before .before .before .before .before .before .before .before .args .wides .now) (c .before .before .before .before .before .before .before .before .before .before .before .before .before .before .before .before .before .before .before .before .args .bytes .now) (c .before .before .before .before .before .before .before .before .before .before .before .before .before .before .before .before .before .before .before .before .args .firsts .now))))), goes-row _ _ _ _ _ _ (c .before .before .before .before .before .before .before .before .before .before .before .before .before .before .before .before .before .before .before .before .pre .1 .roomy) (c .before .before .before .before .before .before .before .before .before .before .before .before .before .before .before .before .before .before .before .before .pre .1 .regular) _ _ _ _ (c .before .before .before .before .before .before .before .loop .inv (c .before .before .before .before .before .before .before .before .before .before .before .before .before .before .before .before .before .before .before .before .pre .1 .roomy) (c .before .before .before .before .before .before .before .before .before .before .before .before .before .before .before .before .before .before .before .before .pre .1 .regular)))
 
 gives-up-requires : tie.Need-gives-up-requires Inv-loop μ-loop
 gives-up-requires c κs = search needs
@@ -98,7 +98,7 @@ same-length-3 c = (c .before .before .before .before .before .before .before .be
 
 returns : tie.Need-returns Inv-loop μ-loop
 unfolding textIn
-returns c = goes-leave _ _ _ _ _ _ (c .before .before .before .before .before .before .before .before .before .before .before .before .before .before .before .before .before .before .before .before .before .before .before .before .pre .1 .roomy) (c .before .before .before .before .before .before .before .before .before .before .before .before .before .before .before .before .before .before .before .before .before .before .before .before .pre .1 .regular) _ _ _ _ (c .before .before .before .before .before .before .before .before .before .before .before .loop .inv (c .before .before .before .before .before .before .before .before .before .before .before .before .before .before .before .before .before .before .before .before .before .before .before .before .pre .1 .roomy) (c .before .before .before .before .before .before .before .before .before .before .before .before .before .before .before .before .before .before .before .before .before .before .before .before .pre .1 .regular)) _ _ (looked-up _ _ _ _ _ _ _ _ _ _ _ (omega (arith, (turn-inside (c .before .before .before .before .before .before .before .before .before .before .before .loop .g) (c .before .before .before .before .before .before .before .before .before .before .before .before .length32 .result) _ _ (c .before .before .before .before .before .before .before .before .before .before .goes-on .ensures) (c .before .before .before .before .before .before .before .before .before .if1 .taken) (c .before .before .before .before .before .before .before .before .is-full .ensures) (c .before .before .before .before .before .before .before .if2 .left)), c .before .before .before .before .before .before .before .before .before .before .before .before .length32 .ensures .0, seen-long (useParser (c .before .before .before .before .before .before .before .before .before .before .before .before .before .before .before .before .before .before .before .before .before .before .before .before .args .khmer)) (textIn (c .before .before .before .before .before .before .before .before .before .before .before .before .before .before .before .before .before .before .before .before .before .before .before .before .args .wides .now) (c .before .before .before .before .before .before .before .before .before .before .before .before .before .before .before .before .before .before .before .before .before .before .before .before .args .bytes .now) (c .before .before .before .before .before .before .before .before .before .before .before .before .before .before .before .before .before .before .before .before .before .before .before .before .args .firsts .now)))) (c .before .before .before .before .before .before .before .before .is-full .ensures) (c .before .before .before .before .before .before .before .if2 .left) (c .before .before .before .before .before .before .token-at .ensures ∙ ap (λ l. tokenAt l _) (kinds-use (c .before .before .before .before .before .before .before .before .before .before .before .before .before .before .before .before .before .before .before .before .before .before .before .before .args .khmer) (textIn (c .before .before .before .before .before .before .before .before .before .before .before .before .before .before .before .before .before .before .before .before .before .before .before .before .args .wides .now) (c .before .before .before .before .before .before .before .before .before .before .before .before .before .before .before .before .before .before .before .before .before .before .before .before .args .bytes .now) (c .before .before .before .before .before .before .before .before .before .before .before .before .before .before .before .before .before .before .before .before .before .before .before .before .args .firsts .now)))) (c .before .before .before .before .before .scalar .ensures) (c .before .before .before .cell .ensures) (joins-use (c .before .before .before .before .before .before .before .before .before .before .before .before .before .before .before .before .before .before .before .before .before .before .before .before .args .khmer)) (c .before .before .before .before .before .before .before .before .before .before .before .before .before .before .before .before .before .before .before .before .before .before .before .before .pre .0) (index-use (c .before .before .before .before .before .before .before .before .before .before .before .before .before .before .before .before .before .before .before .before .before .before .before .before .args .khmer) _ _ _ _ _ _ (c .before .before .before .before .use-index .ensures) (c .before .before .before .before .before .before .token-at .ensures ∙ ap (λ l. tokenAt l _) (kinds-use (c .before .before .before .before .before .before .before .before .before .before .before .before .before .before .before .before .before .before .before .before .before .before .before .before .args .khmer) (textIn (c .before .before .before .before .before .before .before .before .before .before .before .before .before .before .before .before .before .before .before .before .before .before .before .before .args .wides .now) (c .before .before .before .before .before .before .before .before .before .before .before .before .before .before .before .before .before .before .before .before .before .before .before .before .args .bytes .now) (c .before .before .before .before .before .before .before .before .before .before .before .before .before .before .before .before .before .before .before .before .before .before .before .before .args .firsts .now)))))) _ _ (c .before .before .gives-up .ensures) (c .before .if3 .taken) (c .stand .ensures)
+returns c = goes-leave _ _ _ _ _ _ (c .before .before .before .before .before .before .before .before .before .before .before .before .before .before .before .before .before .before .before .before .before .before .before .before .pre .1 .roomy) (c .before .before .before .before .before .before .before .before .before .before .before .before .before .before .before .before .before .before .before .before .before .before .before .before .pre .1 .regular) _ _ _ _ (c .before .before .before .before .before .before .before .before .before .before .before .loop .inv (c .before .before .before .before .before .before .before .before .before .before .before .before .before .before .before .before .before .before .before .before .before .before .before .before .pre .1 .roomy) (c .before .before .before .before .before .before .before .before .before .before .before .before .before .before .before .before .before .before .before .before .before .before .before .before .pre .1 .regular)) _ _ (looked-up _ _ _ _ _ _ _ _ _ _ _ (omega (arith, (turn-inside (c .before .before .before .before .before .before .before .before .before .before .before .loop .g) (c .before .before .before .before .before .before .before .before .before .before .before .before .length32 .result) _ _ (c .before .before .before .before .before .before .before .before .before .before .goes-on .ensures) (c .before .before .before .before .before .before .before .before .before .if1 .taken) (c .before .before .before .before .before .before .before .before .is-full .ensures) (c .before .before .before .before .before .before .before .if2 .left)), c .before .before .before .before .before .before .before .before .before .before .before .before .length32 .ensures .0, seen-long (useParser (c .before .before .before .before .before .before .before .before .before .before .before .before .before .before .before .before .before .before .before .before .before .before .before .before .args .khmer)) (textIn (c .before .before .before .before .before .before .before .before .before .before .before .before .before .before .before .before .before .before .before .before .before .before .before .before .args .wides .now) (c .before .before .before .before .before .before .before .before .before .before .before .before .before .before .before .before .before .before .before .before .before .before .before .before .args .bytes .now) (c .before .before .before .before .before .before .before .before .before .before .before .before .before .before .before .before .before .before .before .before .before .before .before .before .args .firsts .now)))) (c .before .before .before .before .before .before .before .before .is-full .ensures) (c .before .before .before .before .before .before .before .if2 .left) (c .before .before .before .before .before .before .token-at .ensures ∙ ap (λ l. tokenAt l (c .before .before .before .before .before .before .before .before .before .before .before .loop .g .at)) (kinds-use (c .before .before .before .before .before .before .before .before .before .before .before .before .before .before .before .before .before .before .before .before .before .before .before .before .args .khmer) (textIn (c .before .before .before .before .before .before .before .before .before .before .before .before .before .before .before .before .before .before .before .before .before .before .before .before .args .wides .now) (c .before .before .before .before .before .before .before .before .before .before .before .before .before .before .before .before .before .before .before .before .before .before .before .before .args .bytes .now) (c .before .before .before .before .before .before .before .before .before .before .before .before .before .before .before .before .before .before .before .before .before .before .before .before .args .firsts .now)))) (c .before .before .before .before .before .scalar .ensures) (c .before .before .before .cell .ensures) (joins-use (c .before .before .before .before .before .before .before .before .before .before .before .before .before .before .before .before .before .before .before .before .before .before .before .before .args .khmer)) (c .before .before .before .before .before .before .before .before .before .before .before .before .before .before .before .before .before .before .before .before .before .before .before .before .pre .0) (index-use (c .before .before .before .before .before .before .before .before .before .before .before .before .before .before .before .before .before .before .before .before .before .before .before .before .args .khmer) _ _ _ _ _ _ (c .before .before .before .before .use-index .ensures) (c .before .before .before .before .before .before .token-at .ensures ∙ ap (λ l. tokenAt l (c .before .before .before .before .before .before .before .before .before .before .before .loop .g .at)) (kinds-use (c .before .before .before .before .before .before .before .before .before .before .before .before .before .before .before .before .before .before .before .before .before .before .before .before .args .khmer) (textIn (c .before .before .before .before .before .before .before .before .before .before .before .before .before .before .before .before .before .before .before .before .before .before .before .before .args .wides .now) (c .before .before .before .before .before .before .before .before .before .before .before .before .before .before .before .before .before .before .before .before .before .before .before .before .args .bytes .now) (c .before .before .before .before .before .before .before .before .before .before .before .before .before .before .before .before .before .before .before .before .before .before .before .before .args .firsts .now)))))) _ _ (c .before .before .gives-up .ensures) (c .before .if3 .taken) (c .stand .ensures)
 
 turn-requires : tie.Need-turn-requires Inv-loop μ-loop
 unfolding textIn
@@ -109,7 +109,7 @@ loop-less-2 c = turn-falls _ _ _ _ _ (turn-inside (c .before .before .before .be
 
 loop-again-2 : tie.Need-loop-again-2 Inv-loop μ-loop
 unfolding textIn
-loop-again-2 c = λ r q. goes-turn _ _ _ _ _ _ r q _ _ _ _ (c .before .before .before .before .before .before .before .before .before .before .before .before .before .before .before .before .before .before .before .before .loop .inv r q) _ _ (looked-up _ _ _ _ _ _ _ _ _ _ _ (omega (arith, (turn-inside (c .before .before .before .before .before .before .before .before .before .before .before .before .before .before .before .before .before .before .before .before .loop .g) (c .before .before .before .before .before .before .before .before .before .before .before .before .before .before .before .before .before .before .before .before .before .length32 .result) _ _ (c .before .before .before .before .before .before .before .before .before .before .before .before .before .before .before .before .before .before .before .goes-on .ensures) (c .before .before .before .before .before .before .before .before .before .before .before .before .before .before .before .before .before .before .if1 .taken) (c .before .before .before .before .before .before .before .before .before .before .before .before .before .before .before .before .before .is-full .ensures) (c .before .before .before .before .before .before .before .before .before .before .before .before .before .before .before .before .if2 .left)), c .before .before .before .before .before .before .before .before .before .before .before .before .before .before .before .before .before .before .before .before .before .length32 .ensures .0, seen-long (useParser (c .before .before .before .before .before .before .before .before .before .before .before .before .before .before .before .before .before .before .before .before .before .before .before .before .before .before .before .before .before .before .before .before .before .args .khmer)) (textIn (c .before .before .before .before .before .before .before .before .before .before .before .before .before .before .before .before .before .before .before .before .before .before .before .before .before .before .before .before .before .before .before .before .before .args .wides .now) (c .before .before .before .before .before .before .before .before .before .before .before .before .before .before .before .before .before .before .before .before .before .before .before .before .before .before .before .before .before .before .before .before .before .args .bytes .now) (c .before .before .before .before .before .before .before .before .before .before .before .before .before .before .before .before .before .before .before .before .before .before .before .before .before .before .before .before .before .before .before .before .before .args .firsts .now)))) (c .before .before .before .before .before .before .before .before .before .before .before .before .before .before .before .before .before .is-full .ensures) (c .before .before .before .before .before .before .before .before .before .before .before .before .before .before .before .before .if2 .left) (c .before .before .before .before .before .before .before .before .before .before .before .before .before .before .before .token-at .ensures ∙ ap (λ l. tokenAt l _) (kinds-use (c .before .before .before .before .before .before .before .before .before .before .before .before .before .before .before .before .before .before .before .before .before .before .before .before .before .before .before .before .before .before .before .before .before .args .khmer) (textIn (c .before .before .before .before .before .before .before .before .before .before .before .before .before .before .before .before .before .before .before .before .before .before .before .before .before .before .before .before .before .before .before .before .before .args .wides .now) (c .before .before .before .before .before .before .before .before .before .before .before .before .before .before .before .before .before .before .before .before .before .before .before .before .before .before .before .before .before .before .before .before .before .args .bytes .now) (c .before .before .before .before .before .before .before .before .before .before .before .before .before .before .before .before .before .before .before .before .before .before .before .before .before .before .before .before .before .before .before .before .before .args .firsts .now)))) (c .before .before .before .before .before .before .before .before .before .before .before .before .before .before .scalar .ensures) (c .before .before .before .before .before .before .before .before .before .before .before .before .cell .ensures) (joins-use (c .before .before .before .before .before .before .before .before .before .before .before .before .before .before .before .before .before .before .before .before .before .before .before .before .before .before .before .before .before .before .before .before .before .args .khmer)) (c .before .before .before .before .before .before .before .before .before .before .before .before .before .before .before .before .before .before .before .before .before .before .before .before .before .before .before .before .before .before .before .before .before .pre .0) (index-use (c .before .before .before .before .before .before .before .before .before .before .before .before .before .before .before .before .before .before .before .before .before .before .before .before .before .before .before .before .before .before .before .before .before .args .khmer) _ _ _ _ _ _ (c .before .before .before .before .before .before .before .before .before .before .before .before .before .use-index .ensures) (c .before .before .before .before .before .before .before .before .before .before .before .before .before .before .before .token-at .ensures ∙ ap (λ l. tokenAt l _) (kinds-use (c .before .before .before .before .before .before .before .before .before .before .before .before .before .before .before .before .before .before .before .before .before .before .before .before .before .before .before .before .before .before .before .before .before .args .khmer) (textIn (c .before .before .before .before .before .before .before .before .before .before .before .before .before .before .before .before .before .before .before .before .before .before .before .before .before .before .before .before .before .before .before .before .before .args .wides .now) (c .before .before .before .before .before .before .before .before .before .before .before .before .before .before .before .before .before .before .before .before .before .before .before .before .before .before .before .before .before .before .before .before .before .args .bytes .now) (c .before .before .before .before .before .before .before .before .before .before .before .before .before .before .before .before .before .before .before .before .before .before .before .before .before .before .before .before .before .before .before .before .before .args .firsts .now)))))) _ _ _ _ _ _ _ refl refl refl (c .before .before .before .before .before .before .turn .ensures .0) (c .before .before .before .before .before .before .turn .ensures .1)
+loop-again-2 c = λ r q. goes-turn _ _ _ _ _ _ r q _ _ _ _ (c .before .before .before .before .before .before .before .before .before .before .before .before .before .before .before .before .before .before .before .before .loop .inv r q) _ _ (looked-up _ _ _ _ _ _ _ _ _ _ _ (omega (arith, (turn-inside (c .before .before .before .before .before .before .before .before .before .before .before .before .before .before .before .before .before .before .before .before .loop .g) (c .before .before .before .before .before .before .before .before .before .before .before .before .before .before .before .before .before .before .before .before .before .length32 .result) _ _ (c .before .before .before .before .before .before .before .before .before .before .before .before .before .before .before .before .before .before .before .goes-on .ensures) (c .before .before .before .before .before .before .before .before .before .before .before .before .before .before .before .before .before .before .if1 .taken) (c .before .before .before .before .before .before .before .before .before .before .before .before .before .before .before .before .before .is-full .ensures) (c .before .before .before .before .before .before .before .before .before .before .before .before .before .before .before .before .if2 .left)), c .before .before .before .before .before .before .before .before .before .before .before .before .before .before .before .before .before .before .before .before .before .length32 .ensures .0, seen-long (useParser (c .before .before .before .before .before .before .before .before .before .before .before .before .before .before .before .before .before .before .before .before .before .before .before .before .before .before .before .before .before .before .before .before .before .args .khmer)) (textIn (c .before .before .before .before .before .before .before .before .before .before .before .before .before .before .before .before .before .before .before .before .before .before .before .before .before .before .before .before .before .before .before .before .before .args .wides .now) (c .before .before .before .before .before .before .before .before .before .before .before .before .before .before .before .before .before .before .before .before .before .before .before .before .before .before .before .before .before .before .before .before .before .args .bytes .now) (c .before .before .before .before .before .before .before .before .before .before .before .before .before .before .before .before .before .before .before .before .before .before .before .before .before .before .before .before .before .before .before .before .before .args .firsts .now)))) (c .before .before .before .before .before .before .before .before .before .before .before .before .before .before .before .before .before .is-full .ensures) (c .before .before .before .before .before .before .before .before .before .before .before .before .before .before .before .before .if2 .left) (c .before .before .before .before .before .before .before .before .before .before .before .before .before .before .before .token-at .ensures ∙ ap (λ l. tokenAt l (c .before .before .before .before .before .before .before .before .before .before .before .before .before .before .before .before .before .before .before .before .loop .g .at)) (kinds-use (c .before .before .before .before .before .before .before .before .before .before .before .before .before .before .before .before .before .before .before .before .before .before .before .before .before .before .before .before .before .before .before .before .before .args .khmer) (textIn (c .before .before .before .before .before .before .before .before .before .before .before .before .before .before .before .before .before .before .before .before .before .before .before .before .before .before .before .before .before .before .before .before .before .args .wides .now) (c .before .before .before .before .before .before .before .before .before .before .before .before .before .before .before .before .before .before .before .before .before .before .before .before .before .before .before .before .before .before .before .before .before .args .bytes .now) (c .before .before .before .before .before .before .before .before .before .before .before .before .before .before .before .before .before .before .before .before .before .before .before .before .before .before .before .before .before .before .before .before .before .args .firsts .now)))) (c .before .before .before .before .before .before .before .before .before .before .before .before .before .before .scalar .ensures) (c .before .before .before .before .before .before .before .before .before .before .before .before .cell .ensures) (joins-use (c .before .before .before .before .before .before .before .before .before .before .before .before .before .before .before .before .before .before .before .before .before .before .before .before .before .before .before .before .before .before .before .before .before .args .khmer)) (c .before .before .before .before .before .before .before .before .before .before .before .before .before .before .before .before .before .before .before .before .before .before .before .before .before .before .before .before .before .before .before .before .before .pre .0) (index-use (c .before .before .before .before .before .before .before .before .before .before .before .before .before .before .before .before .before .before .before .before .before .before .before .before .before .before .before .before .before .before .before .before .before .args .khmer) _ _ _ _ _ _ (c .before .before .before .before .before .before .before .before .before .before .before .before .before .use-index .ensures) (c .before .before .before .before .before .before .before .before .before .before .before .before .before .before .before .token-at .ensures ∙ ap (λ l. tokenAt l (c .before .before .before .before .before .before .before .before .before .before .before .before .before .before .before .before .before .before .before .before .loop .g .at)) (kinds-use (c .before .before .before .before .before .before .before .before .before .before .before .before .before .before .before .before .before .before .before .before .before .before .before .before .before .before .before .before .before .before .before .before .before .args .khmer) (textIn (c .before .before .before .before .before .before .before .before .before .before .before .before .before .before .before .before .before .before .before .before .before .before .before .before .before .before .before .before .before .before .before .before .before .args .wides .now) (c .before .before .before .before .before .before .before .before .before .before .before .before .before .before .before .before .before .before .before .before .before .before .before .before .before .before .before .before .before .before .before .before .before .args .bytes .now) (c .before .before .before .before .before .before .before .before .before .before .before .before .before .before .before .before .before .before .before .before .before .before .before .before .before .before .before .before .before .before .before .before .before .args .firsts .now)))))) _ _ _ _ _ _ _ refl refl refl (c .before .before .before .before .before .before .turn .ensures .0) (c .before .before .before .before .before .before .turn .ensures .1)
 
 stand-requires-2 : tie.Need-stand-requires-2 Inv-loop μ-loop
 stand-requires-2 c κs = search needs

@@ -6,7 +6,7 @@ use Rattle.segment.proofs.runs.begin.Statement.{statement}
 use Rattle.segment.proofs.runs.begin.Tie as tie
 
 direct-requires : tie.Need-direct-requires
-direct-requires c κs = ready-direct _ _ _ _ _ _ _ _ (textIn (c .before .before .before .before .before .before .before .before .args .wides .now) (c .before .before .before .before .before .before .before .before .args .bytes .now) (c .before .before .before .before .before .before .before .before .args .firsts .now)) (c .before .before .before .before .before .before .before .before .pre .0 .direct (c .before .before .before .if1 .taken)) (c .before .before .before .before .before .before .before .before .pre .0 .sound) (c .before .before .before .before .before .before .before .before .pre .1)
+direct-requires c κs = ready-direct _ _ (textIn (c .before .before .before .before .before .before .before .before .args .wides .now) (c .before .before .before .before .before .before .before .before .args .bytes .now) (c .before .before .before .before .before .before .before .before .args .firsts .now)) _ _ _ (c .before .before .before .before .before .before .before .before .pre .0 .direct (c .before .before .before .if1 .taken)) (c .before .before .before .before .before .before .before .before .pre .0 .sound) (c .before .before .before .before .before .before .before .before .pre .1)
 
 same-length : tie.Need-same-length
 same-length c = search needs

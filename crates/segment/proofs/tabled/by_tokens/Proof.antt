@@ -30,13 +30,13 @@ is-full-requires : tie.Need-is-full-requires Inv-loop μ-loop
 is-full-requires c κs = search needs
 
 refill-requires : tie.Need-refill-requires Inv-loop μ-loop
-refill-requires c κs = ((c .before .before .before .before .loop .inv (c .before .before .before .before .before .before .before .before .before .before .pre .1 .1) (c .before .before .before .before .before .before .before .before .before .before .pre .1 .0)) .begun (is-filled _ _ (c .before .is-full .ensures) (c .if2 .taken)), omega (arith, (c .before .before .before .before .loop .inv (c .before .before .before .before .before .before .before .before .before .before .pre .1 .1) (c .before .before .before .before .before .before .before .before .before .before .pre .1 .0)) .low, (c .before .before .before .before .loop .inv (c .before .before .before .before .before .before .before .before .before .before .pre .1 .1) (c .before .before .before .before .before .before .before .before .before .before .pre .1 .0)) .inside, (c .before .before .before .before .before .before .before .before .before .before .pre .1 .1) .short))
+refill-requires c κs = ((c .before .before .before .before .loop .inv (c .before .before .before .before .before .before .before .before .before .before .pre .1 .1) (c .before .before .before .before .before .before .before .before .before .before .pre .1 .0)) .begun (is-filled (c .before .before .before .before .loop .g) _ (c .before .is-full .ensures) (c .if2 .taken)), omega (arith, (c .before .before .before .before .loop .inv (c .before .before .before .before .before .before .before .before .before .before .pre .1 .1) (c .before .before .before .before .before .before .before .before .before .before .pre .1 .0)) .low, (c .before .before .before .before .loop .inv (c .before .before .before .before .before .before .before .before .before .before .pre .1 .1) (c .before .before .before .before .before .before .before .before .before .before .pre .1 .0)) .inside, (c .before .before .before .before .before .before .before .before .before .before .pre .1 .1) .short))
 
 loop-less : tie.Need-loop-less Inv-loop μ-loop
-loop-less c = refill-falls _ _ _ _ (is-filled _ _ (c .before .before .is-full .ensures) (c .before .if2 .taken)) (c .refill .ensures)
+loop-less c = refill-falls _ _ _ _ (is-filled (c .before .before .before .before .before .loop .g) _ (c .before .before .is-full .ensures) (c .before .if2 .taken)) (c .refill .ensures)
 
 loop-again : tie.Need-loop-again Inv-loop μ-loop
-loop-again c = λ r q. goes-refill _ _ _ _ _ _ r q _ _ _ _ (c .before .before .before .before .before .loop .inv r q) _ (is-filled _ _ (c .before .before .is-full .ensures) (c .before .if2 .taken)) (c .refill .ensures)
+loop-again c = λ r q. goes-refill _ _ _ _ _ _ r q _ _ _ _ (c .before .before .before .before .before .loop .inv r q) _ (is-filled (c .before .before .before .before .before .loop .g) _ (c .before .before .is-full .ensures) (c .before .if2 .taken)) (c .refill .ensures)
 
 mul-t : tie.Need-mul-t Inv-loop μ-loop
 mul-t c = omega (arith, (turn-inside (c .before .before .before .before .loop .g) (length (c .before .before .before .before .before .before .before .before .before .before .args .text .now)) _ _ (c .before .before .before .goes-on .ensures) (c .before .before .if1 .taken) (c .before .is-full .ensures) (c .if2 .left)), (c .before .before .before .before .before .before .before .before .before .before .pre .1 .1) .short)
@@ -51,7 +51,7 @@ use-index-requires : tie.Need-use-index-requires Inv-loop μ-loop
 use-index-requires c κs = goes-row _ _ _ _ _ _ (c .before .before .before .before .before .before .before .before .before .before .before .before .pre .1 .1) (c .before .before .before .before .before .before .before .before .before .before .before .before .pre .1 .0) _ _ _ _ (c .before .before .before .before .before .before .loop .inv (c .before .before .before .before .before .before .before .before .before .before .before .before .pre .1 .1) (c .before .before .before .before .before .before .before .before .before .before .before .before .pre .1 .0))
 
 cell-requires : tie.Need-cell-requires Inv-loop μ-loop
-cell-requires c κs = (cell-index _ _ _ _ _ _ _ (c .before .before .before .before .before .before .before .before .before .before .before .before .before .pre .1 .0) (turn-inside (c .before .before .before .before .before .before .before .loop .g) (length (c .before .before .before .before .before .before .before .before .before .before .before .before .before .args .text .now)) _ _ (c .before .before .before .before .before .before .goes-on .ensures) (c .before .before .before .before .before .if1 .taken) (c .before .before .before .before .is-full .ensures) (c .before .before .before .if2 .left)) ((c .before .before .before .before .before .before .before .loop .inv (c .before .before .before .before .before .before .before .before .before .before .before .before .before .pre .1 .1) (c .before .before .before .before .before .before .before .before .before .before .before .before .before .pre .1 .0)) .row-in) (c .before .before .before .before .before .before .before .before .before .before .before .before .before .pre .0) (index-use (c .before .before .before .before .before .before .before .before .before .before .before .before .before .args .khmer) _ _ _ _ _ _ (c .use-index .ensures) refl), goes-row _ _ _ _ _ _ (c .before .before .before .before .before .before .before .before .before .before .before .before .before .pre .1 .1) (c .before .before .before .before .before .before .before .before .before .before .before .before .before .pre .1 .0) _ _ _ _ (c .before .before .before .before .before .before .before .loop .inv (c .before .before .before .before .before .before .before .before .before .before .before .before .before .pre .1 .1) (c .before .before .before .before .before .before .before .before .before .before .before .before .before .pre .1 .0)))
+cell-requires c κs = (cell-index (useParser (c .before .before .before .before .before .before .before .before .before .before .before .before .before .args .khmer)) (c .before .before .before .before .before .before .before .before .before .before .before .before .before .args .mode) (c .before .before .before .before .before .before .before .before .before .before .before .before .before .args .text .now) (c .before .before .before .before .before .before .before .loop .g .at) (c .before .before .before .before .before .before .before .loop .g .row) _ (c .before .before .before .before .before .before .before .before .before .before .before .before .before .args .table .now) (c .before .before .before .before .before .before .before .before .before .before .before .before .before .pre .1 .0) (turn-inside (c .before .before .before .before .before .before .before .loop .g) (length (c .before .before .before .before .before .before .before .before .before .before .before .before .before .args .text .now)) _ _ (c .before .before .before .before .before .before .goes-on .ensures) (c .before .before .before .before .before .if1 .taken) (c .before .before .before .before .is-full .ensures) (c .before .before .before .if2 .left)) ((c .before .before .before .before .before .before .before .loop .inv (c .before .before .before .before .before .before .before .before .before .before .before .before .before .pre .1 .1) (c .before .before .before .before .before .before .before .before .before .before .before .before .before .pre .1 .0)) .row-in) (c .before .before .before .before .before .before .before .before .before .before .before .before .before .pre .0) (index-use (c .before .before .before .before .before .before .before .before .before .before .before .before .before .args .khmer) _ _ _ _ _ _ (c .use-index .ensures) refl), goes-row _ _ _ _ _ _ (c .before .before .before .before .before .before .before .before .before .before .before .before .before .pre .1 .1) (c .before .before .before .before .before .before .before .before .before .before .before .before .before .pre .1 .0) _ _ _ _ (c .before .before .before .before .before .before .before .loop .inv (c .before .before .before .before .before .before .before .before .before .before .before .before .before .pre .1 .1) (c .before .before .before .before .before .before .before .before .before .before .before .before .before .pre .1 .0)))
 
 gives-up-requires : tie.Need-gives-up-requires Inv-loop μ-loop
 gives-up-requires c κs = search needs
