@@ -7,6 +7,7 @@ use native.Mathlib.Omega.{arith}
 use lib.Dec.{eqb, ltb}
 use lib.ListN.{length, getD, set, length-set}
 use denote.Ref.{RefT, now}
+use denote.Triple.Both.{Both}
 use borrow.Author.Tests.{lt-ltb, le-ltb, eq-eqb, ne-eqb, ltb-true, ltb-false, eqb-true, eqb-false}
 use Rattle.classes.specs.Shape.{shapeCode}
 use Rattle.classes.specs.declared.Mode.{Mode}
@@ -263,11 +264,11 @@ module _ (parser : Parser) (mode : Mode) (text scalars₀ classes₀ clusters₀
           (λ b. rw (a, b) (writes (eqb-false (doneBy v) 3 a) (eqb-false (doneBy v) 2 b))))
 
       -- with the values as the code has them
-      pub goes-turn : (r : Going) (os oc on os′ oc′ on′ : RefT (List ℕ)) → now os ≡ scalars → now oc ≡ classes → now on ≡ clusters → r ≡ turned g v → Wrote g v x os oc on os′ oc′ on′ → Goes r (now os′) (now oc′) (now on′)
-      goes-turn r os oc on os′ oc′ on′ es ec en er u =
-          subst (λ (r : Going). Goes r (now os′) (now oc′) (now on′)) (sym er)
-          (subst (λ l. Goes (turned g v) l (now oc′) (now on′)) (sym (u .scalar ∙ ap (λ l. putBy v (g .characters) x l) es ∙ ap (λ x. putBy v (g .characters) x scalars) (looked .scalar)))
-          (subst (λ l. Goes (turned g v) (putBy v (g .characters) (scalarOf (tokenAt text (g .at))) scalars) l (now on′)) (sym (u .class ∙ ap (putBy v (g .characters) (v % 16)) ec))
+      pub goes-turn : (r : Going) (os oc on : Both (RefT (List ℕ)) (RefT (List ℕ))) → now (os .entry) ≡ scalars → now (oc .entry) ≡ classes → now (on .entry) ≡ clusters → r ≡ turned g v → Wrote g v x os oc on → Goes r (now (os .exit)) (now (oc .exit)) (now (on .exit))
+      goes-turn r os oc on es ec en er u =
+          subst (λ (r : Going). Goes r (now (os .exit)) (now (oc .exit)) (now (on .exit))) (sym er)
+          (subst (λ l. Goes (turned g v) l (now (oc .exit)) (now (on .exit))) (sym (u .scalar ∙ ap (λ l. putBy v (g .characters) x l) es ∙ ap (λ x. putBy v (g .characters) x scalars) (looked .scalar)))
+          (subst (λ l. Goes (turned g v) (putBy v (g .characters) (scalarOf (tokenAt text (g .at))) scalars) l (now (on .exit))) (sym (u .class ∙ ap (putBy v (g .characters) (v % 16)) ec))
           (subst (λ l. Goes (turned g v) (putBy v (g .characters) (scalarOf (tokenAt text (g .at))) scalars) (putBy v (g .characters) (v % 16) classes) l) (sym (u .cluster ∙ ap (putBy v (g .characters) (g .clusters + doneBy v - 1)) en)) turning)))
 
 -- the measure: tokens left, cells left, whether the cluster is full, whether one is under way

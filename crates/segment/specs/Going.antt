@@ -6,6 +6,7 @@ use mathlib.Core.List.{List}
 use lib.Dec.{eqb, ltb}
 use lib.ListN.{length, set}
 use denote.Ref.{RefT, now}
+use denote.Triple.Both.{Both}
 use Rattle.classes.specs.declared.Mode.{Mode}
 use Rattle.classes.specs.declared.Mode.the-variants.{Crate, Whole}
 use Rattle.segment.specs.declared.going.Going.{Going}
@@ -60,10 +61,10 @@ unfoldable pub putBy : ℕ → ℕ → ℕ → List ℕ → List ℕ
 putBy v o x cells = cond (eqb (doneBy v) 3) cells (cond (eqb (doneBy v) 2) cells (set cells o x))
 
 -- the three columns after that, of a character of scalar x
-pub record Wrote (g : Going) (v x : ℕ) (os oc on os′ oc′ on′ : RefT (List ℕ)) : Type 0 where
-  pub scalar : now os′ ≡ putBy v (g .characters) x (now os)
-  pub class : now oc′ ≡ putBy v (g .characters) (v % 16) (now oc)
-  pub cluster : now on′ ≡ putBy v (g .characters) (g .clusters + doneBy v - 1) (now on)
+pub record Wrote (g : Going) (v x : ℕ) (os oc on : Both (RefT (List ℕ)) (RefT (List ℕ))) : Type 0 where
+  pub scalar : now (os .exit) ≡ putBy v (g .characters) x (now (os .entry))
+  pub class : now (oc .exit) ≡ putBy v (g .characters) (v % 16) (now (oc .entry))
+  pub cluster : now (on .exit) ≡ putBy v (g .characters) (g .clusters + doneBy v - 1) (now (on .entry))
 
 -- room for a character more
 pub record Writable (g : Going) (scalars classes clusters : List ℕ) : Type 0 where

@@ -64,7 +64,7 @@ fn by_simple<'s, 'a>(
     oclusters: &mut [u16],
 ) -> Stand
     requires { ⌜ Ready Simple (lent wides bytes firsts) (now oscalars) (now oclasses) (now oclusters) ⌝ }
-    ensures { λ r. ⌜ ReachedIn Simple mode (lent (wides .entry) (bytes .entry) (firsts .entry)) (oscalars .entry) (oclasses .entry) (oclusters .entry) (oscalars .exit) (oclasses .exit) (oclusters .exit) r ⌝ }
+    ensures { λ r. ⌜ ReachedIn Simple mode (lent (wides .entry) (bytes .entry) (firsts .entry)) oscalars oclasses oclusters r ⌝ }
 {
     let table = SIMPLE;
     let scalars = wides[0];
@@ -167,7 +167,7 @@ fn by_myanmar<'s, 'a>(
     oclusters: &mut [u16],
 ) -> Stand
     requires { ⌜ Ready Myanmar (lent wides bytes firsts) (now oscalars) (now oclasses) (now oclusters) ⌝ }
-    ensures { λ r. ⌜ ReachedIn Myanmar mode (lent (wides .entry) (bytes .entry) (firsts .entry)) (oscalars .entry) (oclasses .entry) (oclusters .entry) (oscalars .exit) (oclasses .exit) (oclusters .exit) r ⌝ }
+    ensures { λ r. ⌜ ReachedIn Myanmar mode (lent (wides .entry) (bytes .entry) (firsts .entry)) oscalars oclasses oclusters r ⌝ }
 {
     let table = MYANMAR;
     let scalars = wides[0];
@@ -225,7 +225,7 @@ fn by_use<'s, 'a>(
     oclusters: &mut [u16],
 ) -> Stand
     requires { ⌜ (now table ≡ tableOf (useParser khmer)) × Ready (useParser khmer) (lent wides bytes firsts) (now oscalars) (now oclasses) (now oclusters) ⌝ }
-    ensures { λ r. ⌜ ReachedIn (useParser khmer) mode (lent (wides .entry) (bytes .entry) (firsts .entry)) (oscalars .entry) (oclasses .entry) (oclusters .entry) (oscalars .exit) (oclasses .exit) (oclusters .exit) r ⌝ }
+    ensures { λ r. ⌜ ReachedIn (useParser khmer) mode (lent (wides .entry) (bytes .entry) (firsts .entry)) oscalars oclasses oclusters r ⌝ }
 {
     let scalars = wides[0];
     let kinds = bytes[1];
@@ -265,7 +265,7 @@ fn by_complex<'s, 'a>(
     oclusters: &mut [u16],
 ) -> Stand
     requires { ⌜ Ready Complex (lent wides bytes firsts) (now oscalars) (now oclasses) (now oclusters) ⌝ }
-    ensures { λ r. ⌜ ReachedIn Complex mode (lent (wides .entry) (bytes .entry) (firsts .entry)) (oscalars .entry) (oclasses .entry) (oclusters .entry) (oscalars .exit) (oclasses .exit) (oclusters .exit) r ⌝ }
+    ensures { λ r. ⌜ ReachedIn Complex mode (lent (wides .entry) (bytes .entry) (firsts .entry)) oscalars oclasses oclusters r ⌝ }
 {
     by_use(
         false,
@@ -290,7 +290,7 @@ fn by_khmer<'s, 'a>(
     oclusters: &mut [u16],
 ) -> Stand
     requires { ⌜ Ready Khmer (lent wides bytes firsts) (now oscalars) (now oclasses) (now oclusters) ⌝ }
-    ensures { λ r. ⌜ ReachedIn Khmer mode (lent (wides .entry) (bytes .entry) (firsts .entry)) (oscalars .entry) (oclasses .entry) (oclusters .entry) (oscalars .exit) (oclasses .exit) (oclusters .exit) r ⌝ }
+    ensures { λ r. ⌜ ReachedIn Khmer mode (lent (wides .entry) (bytes .entry) (firsts .entry)) oscalars oclasses oclusters r ⌝ }
 {
     by_use(
         true,
@@ -317,7 +317,7 @@ pub(crate) fn direct<'s, 'a>(
     oclusters: &mut [u16],
 ) -> Stand
     requires { ⌜ Ready parser (lent wides bytes firsts) (now oscalars) (now oclasses) (now oclusters) ⌝ }
-    ensures { λ r. ⌜ ReachedIn parser mode (lent (wides .entry) (bytes .entry) (firsts .entry)) (oscalars .entry) (oclasses .entry) (oclusters .entry) (oscalars .exit) (oclasses .exit) (oclusters .exit) r ⌝ }
+    ensures { λ r. ⌜ ReachedIn parser mode (lent (wides .entry) (bytes .entry) (firsts .entry)) oscalars oclasses oclusters r ⌝ }
 {
     match parser {
         Parser::Simple => by_simple(mode, wides, bytes, firsts, oscalars, oclasses, oclusters),

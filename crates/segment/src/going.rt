@@ -147,7 +147,7 @@ impl Going {
         oclusters: &mut [u16],
     ) -> Going
         requires { ⌜ Writable self (now oscalars) (now oclasses) (now oclusters) ⌝ }
-        ensures { λ r. ⌜ (r ≡ turned self v) × Wrote self v x (oscalars .entry) (oclasses .entry) (oclusters .entry) (oscalars .exit) (oclasses .exit) (oclusters .exit) ⌝ }
+        ensures { λ r. ⌜ (r ≡ turned self v) × Wrote self v x oscalars oclasses oclusters ⌝ }
     {
         let what = (v / 16 % 4) as usize;
         let row = (v / 64) as usize;

@@ -67,7 +67,7 @@ fn write(
     oclusters: &mut [u16],
 )
     requires { ⌜ Fits p at (now oscalars) (now oclasses) (now oclusters) ⌝ }
-    ensures { λ _. ⌜ Written p number at (oscalars .entry) (oclasses .entry) (oclusters .entry) (oscalars .exit) (oclasses .exit) (oclusters .exit) ⌝ }
+    ensures { λ _. ⌜ Written p number at oscalars oclasses oclusters ⌝ }
 {
     let len = p.len;
     let chars = p.chars;
@@ -94,7 +94,7 @@ fn finish(
     oclusters: &mut [u16],
 ) -> RunAnswer
     requires { ⌜ Stands parser mode (now text) oscalars oclasses oclusters from ⌝ }
-    ensures { λ r. ⌜ Finished parser mode (now (text .entry)) (oscalars .entry) (oclasses .entry) (oclusters .entry) from r (oscalars .exit) (oclasses .exit) (oclusters .exit) ⌝ }
+    ensures { λ r. ⌜ Finished parser mode (now (text .entry)) from oscalars oclasses oclusters r ⌝ }
 {
     let mut at: usize = from.at;
     let mut clusters: usize = from.clusters;
@@ -134,7 +134,7 @@ fn run_within<'s, 'a>(
     oclusters: &mut [u16],
 ) -> RunAnswer
     requires { ⌜ Rests parser mode (lent wides bytes firsts) (length (now out)) oscalars oclasses oclusters from ⌝ }
-    ensures { λ r. ⌜ FinishedIn parser mode (lent (wides .entry) (bytes .entry) (firsts .entry)) (oscalars .entry) (oclasses .entry) (oclusters .entry) from r (oscalars .exit) (oclasses .exit) (oclusters .exit) ⌝ }
+    ensures { λ r. ⌜ FinishedIn parser mode (lent (wides .entry) (bytes .entry) (firsts .entry)) from oscalars oclasses oclusters r ⌝ }
 {
     let n = tokens_of(parser, mode, wides, bytes, firsts, out);
     let text = &out[..n];
@@ -156,7 +156,7 @@ fn run_array<'s, 'a>(
     oclusters: &mut [u16],
 ) -> RunAnswer
     requires { ⌜ (n ≤ 12288) × Rests parser mode (lent wides bytes firsts) n oscalars oclasses oclusters from ⌝ }
-    ensures { λ r. ⌜ FinishedIn parser mode (lent (wides .entry) (bytes .entry) (firsts .entry)) (oscalars .entry) (oclasses .entry) (oclusters .entry) from r (oscalars .exit) (oclasses .exit) (oclusters .exit) ⌝ }
+    ensures { λ r. ⌜ FinishedIn parser mode (lent (wides .entry) (bytes .entry) (firsts .entry)) from oscalars oclasses oclusters r ⌝ }
 {
     if n <= SHORT {
         let mut short = [0u64; 256];
@@ -234,7 +234,7 @@ fn begin<'s, 'a>(
     oclusters: &mut [u16],
 ) -> Stand
     requires { ⌜ Known records parser mode (lent wides bytes firsts) × RoomyIn parser mode (lent wides bytes firsts) oscalars oclasses oclusters ⌝ }
-    ensures { λ r. ⌜ Begun parser mode (lent (wides .entry) (bytes .entry) (firsts .entry)) (oscalars .entry) (oclasses .entry) (oclusters .entry) (oscalars .exit) (oclasses .exit) (oclusters .exit) r ⌝ }
+    ensures { λ r. ⌜ Begun parser mode (lent (wides .entry) (bytes .entry) (firsts .entry)) oscalars oclasses oclusters r ⌝ }
 {
     if records {
         return direct(
@@ -263,7 +263,7 @@ pub(crate) fn run_accepted<'s, 'a>(
     oclusters: &mut [u16],
 ) -> RunAnswer
     requires { ⌜ Sound parser (lent wides bytes firsts) ⌝ }
-    ensures { λ r. ⌜ RanIn parser mode (lent (wides .entry) (bytes .entry) (firsts .entry)) (oscalars .entry) (oclasses .entry) (oclusters .entry) r (oscalars .exit) (oclasses .exit) (oclusters .exit) ⌝ }
+    ensures { λ r. ⌜ RanIn parser mode (lent (wides .entry) (bytes .entry) (firsts .entry)) oscalars oclasses oclusters r ⌝ }
 {
     let records = is_direct(parser, mode, wides, bytes, firsts);
     let n = token_count(records, parser, mode, wides, bytes, firsts);

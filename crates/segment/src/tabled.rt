@@ -26,7 +26,7 @@ fn by_tokens(
     oclusters: &mut [u16],
 ) -> Stand
     requires { ⌜ (now table ≡ tableOf (useParser khmer)) × (Regular (useParser khmer) (now text) × Roomy (now text) (now oscalars) (now oclasses) (now oclusters)) ⌝ }
-    ensures { λ r. ⌜ Reached (useParser khmer) mode (now (text .entry)) (oscalars .entry) (oclasses .entry) (oclusters .entry) (oscalars .exit) (oclasses .exit) (oclusters .exit) r ⌝ }
+    ensures { λ r. ⌜ Reached (useParser khmer) mode (now (text .entry)) oscalars oclasses oclusters r ⌝ }
 {
     let n = text.len();
     let mut g = Going::START;
@@ -57,7 +57,7 @@ fn complex_tokens(
     oclusters: &mut [u16],
 ) -> Stand
     requires { ⌜ Roomy (now text) (now oscalars) (now oclasses) (now oclusters) ⌝ }
-    ensures { λ r. ⌜ Reached Complex mode (now (text .entry)) (oscalars .entry) (oclasses .entry) (oclusters .entry) (oscalars .exit) (oclasses .exit) (oclusters .exit) r ⌝ }
+    ensures { λ r. ⌜ Reached Complex mode (now (text .entry)) oscalars oclasses oclusters r ⌝ }
 {
     if all_regular(false, text) {
         return by_tokens(false, mode, &COMPLEX, text, oscalars, oclasses, oclusters);
@@ -73,7 +73,7 @@ fn khmer_tokens(
     oclusters: &mut [u16],
 ) -> Stand
     requires { ⌜ Roomy (now text) (now oscalars) (now oclasses) (now oclusters) ⌝ }
-    ensures { λ r. ⌜ Reached Khmer mode (now (text .entry)) (oscalars .entry) (oclasses .entry) (oclusters .entry) (oscalars .exit) (oclasses .exit) (oclusters .exit) r ⌝ }
+    ensures { λ r. ⌜ Reached Khmer mode (now (text .entry)) oscalars oclasses oclusters r ⌝ }
 {
     if all_regular(true, text) {
         return by_tokens(true, mode, &KHMER, text, oscalars, oclasses, oclusters);
@@ -93,7 +93,7 @@ pub(crate) fn tabled(
     oclusters: &mut [u16],
 ) -> Stand
     requires { ⌜ Stands parser mode (now text) oscalars oclasses oclusters from ⌝ }
-    ensures { λ r. ⌜ Onward parser mode (now (text .entry)) (oscalars .entry) (oclasses .entry) (oclusters .entry) from (oscalars .exit) (oclasses .exit) (oclusters .exit) r ⌝ }
+    ensures { λ r. ⌜ Onward parser mode (now (text .entry)) from oscalars oclasses oclusters r ⌝ }
 {
     if 0 < from.at {
         return from;
