@@ -13,7 +13,7 @@ use records::cells::cell8;
 use records::cells::record_count;
 ghost use mathlib.Core.Path.{_≡_};
 ghost use Prim.Native.Nat.{_-_, min};
-ghost use Rattle.records.specs.Text.{lent};
+ghost use Rattle.records.specs.Text.{column, lent};
 ghost use Rattle.tokens.specs.Tokens.{recordTokens, splitTokens, Fills, fetchIn, countIn};
 
 // The tokens of the simple or the Myanmar parser, with these classes and emoji marks, as many as there is room for: each record is
@@ -40,14 +40,14 @@ pub fn fill<'s, 'a>(
     i
 }
 
-// The first of n records, from record i on, that gives a token: "a marked record with no parts is passed over in the stream". The call
-// of itself is the last thing that it does, so that the compiler makes a loop of it.
-fn fetch(n: usize, decomposes: &[u8], counts: &[u8], i: usize) -> usize
-    ensures { λ r. ⌜ r ≡ fetchIn (n - i) (now (decomposes .entry)) (now (counts .entry)) i ⌝ }
+// The first of n records, from record i on, that gives a token: "a marked record with no parts is passed over in the stream". It calls
+// itself for the next record, as the last thing that it does and with thin references alone, so that the compiler makes a loop of it.
+fn fetch<'s, 'a>(n: usize, bytes: &'s [&'a [u8]; 15], i: usize) -> usize
+    ensures { λ r. ⌜ r ≡ fetchIn (n - i) (column (now (bytes .entry)) 10) (column (now (bytes .entry)) 11) i ⌝ }
 {
     if i < n {
-        if gives_none(cell8(decomposes, i), cell8(counts, i)) {
-            return fetch(n, decomposes, counts, i + 1);
+        if gives_none(byte(bytes, 10, i), byte(bytes, 11, i)) {
+            return fetch(n, bytes, i + 1);
         }
         return i;
     }
@@ -66,7 +66,7 @@ pub fn collect<'s, 'a>(
 {
     let n = record_count(wides, bytes, firsts);
     let mut filled: usize = 0;
-    let mut i = fetch(n, bytes[10], bytes[11], 0);
+    let mut i = fetch(n, bytes, 0);
     let mut k: usize = 0;
     while i < n {
         if out.len() <= filled {
@@ -75,14 +75,14 @@ pub fn collect<'s, 'a>(
         if is_whole(khmer, wides, bytes, firsts, i) {
             out[filled] = own_token(wides, bytes, firsts, bytes[1], byte(bytes, 7, i), i);
             filled += 1;
-            i = fetch(n, bytes[10], bytes[11], i + 1);
+            i = fetch(n, bytes, i + 1);
         } else {
             let pieces = pieces_at(khmer, wides, bytes, firsts, i);
             out[filled] = piece(khmer, wides, bytes, firsts, i, k);
             filled += 1;
             k += 1;
             if pieces <= k {
-                i = fetch(n, bytes[10], bytes[11], i + 1);
+                i = fetch(n, bytes, i + 1);
                 k = 0;
             }
         }
