@@ -8,7 +8,7 @@ use lib.Dec.{eqb, ltb}
 use lib.ListN.{length, getD, set, length-set}
 use denote.Ref.{RefT, now}
 use denote.Triple.Both.{Both}
-use borrow.Author.Tests.{lt-ltb, le-ltb, eq-eqb, ne-eqb, ltb-true, ltb-false, eqb-true, eqb-false}
+use borrow.Author.Tests.{lt-ltb, eq-eqb, ne-eqb, ltb-true, ltb-false, eqb-true, eqb-false}
 use Rattle.classes.specs.Shape.{shapeCode}
 use Rattle.classes.specs.declared.Mode.{Mode}
 use Rattle.classes.specs.declared.Mode.the-variants.{Crate, Whole}

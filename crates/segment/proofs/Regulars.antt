@@ -1,14 +1,13 @@
 -- Texts whose records are the tokens, and regular ones: what acceptance gives, and what is looked at. Assumes nothing.
 use Prim.Native.Nat.{ℕ, zero, suc, _+_, _<_, _≤_}
 use mathlib.Core.Path.{_≡_, refl, sym, _∙_, ap, subst}
-use mathlib.Core.Bool.{Bool, true, false, cond, not, _||_, _&&_}
+use mathlib.Core.Bool.{Bool, true, false, not, _||_}
 use mathlib.Core.List.{List, [], _∷_, _++_}
 use native.Mathlib.Omega.{arith}
 use lib.Dec.{eqb, ltb}
 use lib.ListN.{length, getD, List·getD-eq-default}
 use borrow.Author.Tests.{lt-ltb, eq-eqb, eqb-true, ltb-true, ltb-false}
 use Rattle.classes.specs.declared.Mode.{Mode}
-use Rattle.token.specs.Token.{scalarOf, kindOf, breakOf, emojiOf}
 use Rattle.token.proofs.Fields.{Says}
 use Rattle.records.specs.Text.{Text, Parts, cell, recordLengths}
 use Rattle.records.specs.Refusals.{any}
@@ -20,7 +19,7 @@ use Rattle.tokens.specs.Tokens.{Source, Splits, sourceOf, splitsOf, itself, spl
 use Rattle.tokens.proofs.Accepted.{small, own-says}
 use Rattle.parse.specs.State.{tokenAt}
 use Rattle.parse.proofs.Loop.{by-test}
-use Rattle.tables.specs.Symbols.{Regular, simpleRegular, regularMyanmar, regularUse, myanmarRegular, useRegular}
+use Rattle.tables.specs.Symbols.{Regular, simpleRegular, myanmarRegular, useRegular}
 use Rattle.segment.specs.Seen.{seenIn, seenBy, kindsOf, emojisOf, EvenBy, Direct, useParser, Single, AllMyanmar, AllUse}
 use Rattle.segment.proofs.Reading.{seen-length, token-own}
 

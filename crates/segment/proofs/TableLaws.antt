@@ -1,28 +1,25 @@
 -- The turns of the loop over a table: what the number of a cell makes of the run. Assumes nothing.
-use Prim.Native.Nat.{ℕ, zero, suc, _+_, _-_, _*_, _/_, _%_, _<_, _≤_}
+use Prim.Native.Nat.{ℕ, zero, suc, _+_, _-_, _*_, _/_, _%_, _<_}
 use mathlib.Core.Path.{_≡_, refl, sym, _∙_, ap, subst}
 use mathlib.Core.Bool.{Bool, true, false, cond}
-use mathlib.Core.List.{List, [], _∷_}
+use mathlib.Core.List.{List}
 use native.Mathlib.Omega.{arith}
 use lib.Dec.{eqb, ltb}
-use lib.ListN.{length, getD, set, length-set}
-use borrow.Author.Tests.{lt-ltb, le-ltb, eq-eqb, ne-eqb, ltb-true, ltb-false}
+use lib.ListN.{length, getD}
+use borrow.Author.Tests.{lt-ltb, ne-eqb, ltb-true}
 use Rattle.classes.specs.Scalar.{CGJ}
-use Rattle.classes.specs.Shape.{shapeCode}
 use Rattle.classes.specs.declared.Mode.{Mode}
 use Rattle.classes.specs.declared.Shape.the-variants.{Other}
 use Rattle.token.specs.Token.{scalarOf}
 use Rattle.records.specs.declared.Parser.{Parser}
 use Rattle.records.specs.declared.Parser.the-variants.{Simple, Myanmar, Complex, Khmer}
 use Rattle.parse.specs.declared.Parse.{Parse}
-use Rattle.parse.specs.State.{tokenAt, begin, filledAt}
+use Rattle.parse.specs.State.{tokenAt, begin}
 use Rattle.parse.specs.Rule.{Rule, Test, skip}
-use Rattle.parse.proofs.Loop.{false-true, by-test, both}
+use Rattle.parse.proofs.Loop.{by-test, both}
 use Rattle.simple.specs.Grammar as Simple-rules
 use Rattle.segment.specs.Calls.{grammar, joins}
 use Rattle.segment.specs.Runs.{Roomy}
-use Rattle.segment.specs.Standing.{Running}
-use Rattle.segment.proofs.Turns.{run-starts}
 use Rattle.tables.specs.Symbols.{indexOf, rowsOf, tableOf, cellAt, simpleSymbol, myanmarSymbol, emojiSymbol, useSymbol, useIndex, useRegular, Regular}
 use Rattle.tables.specs.SimpleTable.{simpleTable}
 use Rattle.tables.specs.MyanmarTable.{myanmarTable}
@@ -31,7 +28,7 @@ use Rattle.tables.specs.KhmerTable.{khmerTable}
 use Rattle.complex.specs.Grammar as Complex-rules
 use Rattle.residual.proofs.Residual.{first, Fine, Inside, Calm, calm-free}
 use Rattle.tables.proofs.Pairs.{pair-law}
-use Rattle.segment.proofs.Turn.{joiner, Between, Under, Next, Put, After, start-turn, joiner-turn, under-turn}
+use Rattle.segment.proofs.Turn.{joiner, Between, Next, After, start-turn, joiner-turn, under-turn}
 use Rattle.tables.proofs.Cells.{Cell, over, sets-as, cellOf, fresh, orFresh, decodedBy, okay}
 use Rattle.tables.proofs.SimpleRules as simple
 use Rattle.tables.proofs.SimpleFine as simple-fine

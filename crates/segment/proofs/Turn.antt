@@ -5,16 +5,13 @@ use mathlib.Core.Path.{_≡_, refl, sym, _∙_, ap, subst}
 use mathlib.Core.Bool.{Bool, true, false, cond}
 use mathlib.Core.List.{List, [], _∷_, _++_, map, map-append}
 use native.Mathlib.Omega.{arith}
-use native.Mathlib.Nat.{le-refl}
 use native.Mathlib.Numerals.{add-one}
-use lib.Dec.{eqb, ltb}
-use lib.ListN.{length, set, getD, take as upto, length-set, length-map, replicate}
+use lib.Dec.{eqb}
+use lib.ListN.{length, set, getD, take as upto, length-set, length-map}
 use lib.Seq.{sets, take-suc-set, length-take-le}
-use borrow.Author.Tests.{lt-ltb, le-ltb, ltb-true, ltb-false}
 use Rattle.classes.specs.Shape.{shapeCode}
 use Rattle.classes.specs.Scalar.{CGJ}
 use Rattle.classes.specs.declared.Mode.{Mode}
-use Rattle.classes.specs.declared.Mode.the-variants.{Crate, Whole}
 use Rattle.classes.specs.declared.Shape.{Shape}
 use Rattle.classes.specs.declared.Shape.the-variants.{Other}
 use Rattle.token.specs.Token.{scalarOf}
@@ -22,12 +19,11 @@ use Rattle.records.specs.declared.Parser.{Parser}
 use Rattle.parse.specs.declared.Parse.{Parse}
 use Rattle.parse.specs.declared.Pushed.{Pushed}
 use Rattle.parse.specs.declared.Flow.the-variants.{Stop, Full, End}
-use Rattle.parse.specs.State.{tokenAt, placeAfter, filledAt, begin, placeOf, nothing, charOf, notedMore, going, withPlace, withFlow, withDone, withCells, turns, loop, putOf, notedOf, movedOf, onJoiner, hop, stepOf, pushOf, noteOf}
+use Rattle.parse.specs.State.{tokenAt, filledAt, begin, placeOf, nothing, charOf, notedMore, going, withPlace, withFlow, withDone, putOf, movedOf, onJoiner, hop}
 use Rattle.parse.specs.Rule.{Rule, Test, run}
 use Rattle.parse.specs.Cover.{pushed}
-use Rattle.parse.proofs.Loop.{false-true, if-intro, by-test, Falls, loop-goes, loop-stays}
+use Rattle.parse.proofs.Loop.{loop-goes, loop-stays}
 use Rattle.parse.proofs.Moves.{hop-falls}
-use Rattle.parse.proofs.Runs.{run-still}
 use Rattle.segment.specs.Calls.{grammar, joins, called}
 use Rattle.segment.specs.Runs.{scalarIn, classIn, clusterIn, Roomy}
 use Rattle.segment.proofs.Written.{sets-append}

@@ -1,12 +1,11 @@
 // A run by a table under way: what one cell makes of it. The loops of `direct` and `tabled` are this, each with its own way to the cell.
 use classes::Mode;
 ghost use mathlib.Core.Path.{_≡_};
-ghost use mathlib.Core.Bool.{cond, false};
 ghost use Prim.Native.Nat.{_-_, _<_, _≤_};
-ghost use lib.Dec.{eqb, ltb};
+ghost use lib.Dec.{eqb};
 ghost use lib.ListN.{length};
 ghost use Rattle.tables.specs.Symbols.{joinedAt, cellAt};
-ghost use Rattle.segment.specs.Going.{started, goesOn, givenUp, stopOf, backOf, refilled, turned, Writable, Wrote};
+ghost use Rattle.segment.specs.Going.{goesOn, givenUp, stopOf, backOf, refilled, turned, Writable, Wrote};
 
 // Where a run stands between two clusters.
 pub(crate) struct Stand {

@@ -1,4 +1,3 @@
-use borrow.Author.Tests.{eq-eqb, ne-eqb}
 use borrow.Author.Needs.{needs}
 use Rattle.tables.proofs.is_coeng.Statement.{statement}
 use Rattle.tables.proofs.is_coeng.Tie as tie

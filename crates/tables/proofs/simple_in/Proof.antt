@@ -1,6 +1,6 @@
 use Rattle.tables.specs.Symbols.{simpleIn}
 use native.Mathlib.Omega.{arith}
-use borrow.Author.Tests.{lt-ltb, le-ltb, eq-eqb, ne-eqb}
+use borrow.Author.Tests.{eq-eqb, ne-eqb}
 use borrow.Author.Needs.{needs}
 use Rattle.tables.proofs.simple_in.Statement.{statement}
 use Rattle.tables.proofs.simple_in.Tie as tie

@@ -1,7 +1,6 @@
 use Rattle.tables.specs.Symbols.{special}
 use native.Mathlib.Omega.{arith}
-use borrow.Author.Tests.{lt-ltb, le-ltb, eq-eqb, ne-eqb}
-use borrow.Author.Needs.{needs}
+use borrow.Author.Tests.{eq-eqb, ne-eqb}
 use Rattle.tables.proofs.special_of.Statement.{statement}
 use Rattle.tables.proofs.special_of.Tie as tie
 

@@ -1,14 +1,12 @@
 use Rattle.segment.proofs.Reading.{seen-long, index-use, joins-use, kinds-use, even-use}
-use mathlib.Core.Path.{_≡_, refl, sym, _∙_, ap}
+use mathlib.Core.Path.{refl, sym, _∙_, ap}
 use native.Mathlib.Omega.{arith}
-use lib.ListN.{length}
 use Rattle.records.specs.Text.{textIn}
 use Rattle.tables.specs.Symbols.{Regular}
 use Rattle.segment.specs.Runs.{Roomy}
-use Rattle.segment.specs.Seen.{seenBy}
+use Rattle.segment.specs.Seen.{seenBy, useParser}
 use Rattle.segment.proofs.TableLaws.{cell-index}
 use Rattle.segment.proofs.Loops.{Goes, goes-start, goes-refill, goes-end, goes-row, goes-room, goes-leave, goes-turn, looked-up, left, is-filled, refill-falls, turn-falls, turn-inside}
-use Rattle.segment.specs.Seen.{useParser}
 use Rattle.parse.specs.State.{tokenAt}
 use borrow.Author.Needs.{needs}
 use Rattle.segment.proofs.direct.by_use.Statement.{statement}

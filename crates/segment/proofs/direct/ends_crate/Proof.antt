@@ -1,5 +1,5 @@
 use Rattle.segment.specs.Seen.{endsIn}
-use borrow.Author.Tests.{lt-ltb, le-ltb, eq-eqb, ne-eqb}
+use borrow.Author.Tests.{lt-ltb, le-ltb}
 use borrow.Author.Needs.{needs}
 use Rattle.segment.proofs.direct.ends_crate.Statement.{statement}
 use Rattle.segment.proofs.direct.ends_crate.Tie as tie

@@ -1,7 +1,7 @@
 use Rattle.segment.specs.Seen.{myanmarSeen}
 use Rattle.tables.specs.Symbols.{myanmarIn}
 use native.Mathlib.Omega.{arith}
-use borrow.Author.Tests.{lt-ltb, le-ltb, eq-eqb, ne-eqb}
+use borrow.Author.Tests.{eq-eqb, ne-eqb}
 use borrow.Author.Needs.{needs}
 use Rattle.segment.proofs.direct.myanmar_symbol.Statement.{statement}
 use Rattle.segment.proofs.direct.myanmar_symbol.Tie as tie

@@ -1,5 +1,4 @@
-use borrow.Author.Tests.{lt-ltb, le-ltb, eq-eqb, ne-eqb}
-use borrow.Author.Needs.{needs}
+use borrow.Author.Tests.{eq-eqb, ne-eqb}
 use Rattle.segment.proofs.going.gives_up.Statement.{statement}
 use Rattle.segment.proofs.going.gives_up.Tie as tie
 

@@ -1,5 +1,5 @@
 use Rattle.segment.specs.Going.{stopOf}
-use borrow.Author.Tests.{lt-ltb, le-ltb, eq-eqb, ne-eqb}
+use borrow.Author.Tests.{eq-eqb, ne-eqb}
 use borrow.Author.Needs.{needs}
 use Rattle.segment.proofs.going.stop_of.Statement.{statement}
 use Rattle.segment.proofs.going.stop_of.Tie as tie

@@ -1,6 +1,5 @@
 use Prim.Native.Nat.{ℕ, _-_, _<_}
 use mathlib.Core.Path.{_≡_}
-use mathlib.Core.Bool.{true}
 use lib.ListN.{length}
 use Rattle.records.specs.Text.{cell}
 use Rattle.records.proofs.Passing.{joined-more}

@@ -1,8 +1,7 @@
 use Rattle.segment.proofs.Regulars.{even, marks-long, direct-simple, direct-myanmar, direct-use}
-use Rattle.records.specs.declared.Parser.the-variants.{Simple, Myanmar, Complex, Khmer}
+use Rattle.records.specs.declared.Parser.the-variants.{Myanmar, Complex}
 use Rattle.records.specs.Text.{textIn}
 use mathlib.Core.Bool.{true, false}
-use mathlib.Core.Path.{refl}
 use borrow.Author.Needs.{needs}
 use Rattle.segment.proofs.regular.is_direct.Statement.{statement}
 use Rattle.segment.proofs.regular.is_direct.Tie as tie

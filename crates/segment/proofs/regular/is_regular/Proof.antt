@@ -1,5 +1,5 @@
 use Rattle.tables.specs.Symbols.{useRegular}
-use borrow.Author.Tests.{lt-ltb, le-ltb, eq-eqb, ne-eqb}
+use borrow.Author.Tests.{lt-ltb, le-ltb}
 use borrow.Author.Needs.{needs}
 use Rattle.segment.proofs.regular.is_regular.Statement.{statement}
 use Rattle.segment.proofs.regular.is_regular.Tie as tie

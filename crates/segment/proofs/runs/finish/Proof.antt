@@ -1,7 +1,6 @@
-use Prim.Native.Nat.{_-_}
+use Prim.Native.Nat.{_-_, ℕ}
 use native.Mathlib.Omega.{arith}
 use mathlib.Core.List.{List}
-use Prim.Native.Nat.{ℕ}
 use mathlib.Core.Path.{_∙_, sym}
 use lib.ListN.{length}
 use Rattle.segment.specs.Runs.{Roomy}

@@ -1,5 +1,4 @@
 use borrow.Author.Tests.{eq-eqb, ne-eqb}
-use borrow.Author.Needs.{needs}
 use Rattle.tokens.proofs.pieces.gives_none.Statement.{statement}
 use Rattle.tokens.proofs.pieces.gives_none.Tie as tie
 

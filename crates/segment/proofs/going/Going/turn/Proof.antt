@@ -1,6 +1,5 @@
 use Rattle.segment.specs.Going.{turned, putBy}
-use native.Mathlib.Omega.{arith}
-use borrow.Author.Tests.{lt-ltb, le-ltb, eq-eqb, ne-eqb}
+use borrow.Author.Tests.{eq-eqb, ne-eqb}
 use borrow.Author.Needs.{needs}
 use Rattle.segment.proofs.going.Going.turn.Statement.{statement}
 use Rattle.segment.proofs.going.Going.turn.Tie as tie
