@@ -1,25 +1,24 @@
 -- What a rule does at one token, and the rule that is left after it: the law that a table rests on, for every rule and both modes.
 -- Assumes nothing.
-use Prim.Native.Nat.{ℕ, zero, suc, _+_, _-_, _<_, _≤_}
+use Prim.Native.Nat.{ℕ, _<_}
 use mathlib.Core.Path.{_≡_, refl, sym, _∙_, ap, subst}
 use mathlib.Core.Bool.{Bool, true, false, cond}
-use mathlib.Core.List.{List, [], _∷_}
+use mathlib.Core.List.{List}
 use native.Mathlib.Omega.{arith}
-use lib.Dec.{ltb}
 use lib.ListN.{length}
 use Rattle.classes.specs.declared.Shape.{Shape}
 use Rattle.classes.specs.declared.Shape.the-variants.{Other}
 use Rattle.classes.specs.declared.Mode.{Mode}
-use Rattle.classes.specs.declared.Mode.the-variants.{Crate, Whole}
+use Rattle.classes.specs.declared.Mode.the-variants.{Whole}
 use Rattle.parse.specs.declared.Parse.{Parse}
 use Rattle.parse.specs.declared.Info.{Info}
 use Rattle.parse.specs.declared.Flow.{Flow}
 use Rattle.parse.specs.declared.Flow.the-variants.{GoOn, Stop, Full, End}
-use Rattle.parse.specs.State.{tokenAt, placeAfter, isGoing, going, withFlow, withInfo, withAgain, turns, putOf, notedOf, movedOf, onJoiner, hop, stepOf, pushOf, noteOf, goOn, passesEnd, resumedOf, retriedOf}
-use Rattle.parse.specs.Rule.{Test, Rule, skip, stop, push, note, mark, seq, choose, while, part, thrice, run, holds, take, takeOf, thriceOf}
+use Rattle.parse.specs.State.{tokenAt, isGoing, going, withFlow, withInfo, withAgain, turns, putOf, notedOf, movedOf, onJoiner, hop, stepOf, pushOf, noteOf, goOn, passesEnd, resumedOf, retriedOf}
+use Rattle.parse.specs.Rule.{Test, Rule, skip, stop, push, note, mark, seq, choose, while, part, thrice, run, holds, take, thriceOf}
 use Rattle.parse.proofs.Loop.{false-true, if-intro, by-test, both, loop-keeps}
 use Rattle.parse.proofs.Moves.{moved-case, put-same, noted-same}
-use Rattle.parse.proofs.Keeps.{thrice-keeps, Plain, plain-keeps}
+use Rattle.parse.proofs.Keeps.{thrice-keeps, plain-keeps}
 use Rattle.parse.proofs.Runs.{run-still, run-goes, run-stays, run-falls, moves}
 
 -- what is done with the current token

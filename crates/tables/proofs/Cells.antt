@@ -1,17 +1,16 @@
 -- What a number of a table stands for, and tables checked by one computed test. Assumes nothing.
-use Prim.Native.Nat.{ℕ, zero, suc, _+_, _-_, _*_, _/_, _%_, _<_, _≤_}
+use Prim.Native.Nat.{ℕ, zero, suc, _+_, _-_, _/_, _%_, _<_}
 use mathlib.Core.Path.{_≡_, refl, sym, _∙_, ap}
 use mathlib.Core.Bool.{Bool, true, false, cond}
 use mathlib.Core.List.{List, [], _∷_, map}
 use native.Mathlib.Nat.{add-zero, zero-add, add-suc, suc-add, le-of-suc-le-suc, not-suc-le-zero}
-use native.Mathlib.Omega.{arith}
 use lib.Dec.{eqb, ltb}
-use lib.ListN.{getD, length}
+use lib.ListN.{getD}
 use Rattle.classes.specs.Shape.{shapeCode}
 use Rattle.classes.specs.declared.Shape.{Shape}
 use Rattle.classes.specs.declared.Shape.the-variants.{Base, Mark, Control, Reph, Kinzi, Halant, VPre, VBlw, VMPre, MedialRa, Anusvara, Vs, Zwnj, Zwj, Other}
 use Rattle.parse.specs.Rule.{Rule, skip}
-use Rattle.parse.proofs.Loop.{false-true, both}
+use Rattle.parse.proofs.Loop.{both}
 use Rattle.residual.proofs.Residual.{Res, pass, halt, act, put, noted}
 
 -- a cell of a table: the cluster is over and the loop is left, a character, a note, a character of a new cluster; and the rule that is left

@@ -4,7 +4,9 @@ pub mod SimpleRules
 pub mod MyanmarRules
 pub mod ComplexRules
 pub mod KhmerRules
+pub mod EmojiFine
 pub mod SimpleFine
+pub mod OtherFine
 pub mod MyanmarFine
 pub mod UseFine
 pub mod Kinzi

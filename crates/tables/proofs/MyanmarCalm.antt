@@ -1,5 +1,5 @@
 -- A call of the Myanmar grammar that the table takes passes over no end of the text. Assumes nothing.
-use Prim.Native.Nat.{ℕ, _+_, _<_, _≤_}
+use Prim.Native.Nat.{ℕ, _+_}
 use mathlib.Core.Path.{_≡_, refl, sym, _∙_, ap}
 use mathlib.Core.Bool.{Bool, true, false, cond}
 use mathlib.Core.List.{List}
@@ -7,19 +7,17 @@ use lib.Dec.{eqb, ltb}
 use lib.ListN.{length}
 use borrow.Author.Tests.{ltb-true}
 use Rattle.classes.specs.MyanmarClass.{O}
-use Rattle.classes.specs.Scalar.{CGJ}
 use Rattle.classes.specs.declared.Mode.{Mode}
 use Rattle.classes.specs.declared.Mode.the-variants.{Crate, Whole}
 use Rattle.classes.specs.declared.Shape.the-variants.{Kinzi}
-use Rattle.token.specs.Token.{scalarOf, kindOf, emojiOf}
 use Rattle.records.specs.declared.Parser.the-variants.{Myanmar}
 use Rattle.parse.specs.declared.Parse.{Parse}
-use Rattle.parse.specs.State.{tokenAt, begin}
+use Rattle.parse.specs.State.{begin}
 use Rattle.parse.specs.Rule.{Test, isEmoji, is}
 use Rattle.parse.specs.Shared.{emojis, emojiTurn, emojiExtension, emojiMark, newline, otherArm}
 use Rattle.parse.proofs.Loop.{false-true}
 use Rattle.myanmar.specs.Grammar.{cluster, isAlone, kinzi, syllable, base, finals, vowels, medials, pwoToneMark, postBaseVowel, stacked, acceptWithAs, isKinzi}
-use Rattle.tables.specs.Symbols.{otherSymbol, endsAt, myanmarIn, myanmarSymbol, Regular}
+use Rattle.tables.specs.Symbols.{endsAt, myanmarIn, myanmarSymbol, Regular}
 use Rattle.residual.proofs.Residual.{Inside, Calm, calm-free, calm-whole, free}
 use Rattle.tables.proofs.Kinzi.{kinzi-calm}
 use Rattle.tables.proofs.MyanmarFine as fine

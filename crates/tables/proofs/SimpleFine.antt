@@ -1,64 +1,25 @@
 -- The symbol of a token answers every test of the simple grammar. Assumes nothing.
-use Prim.Native.Nat.{ℕ, zero, suc, _+_, _*_, _/_, _%_, _<_, _≤_}
-use mathlib.Core.Path.{_≡_, refl, sym, _∙_, ap, subst}
-use mathlib.Core.Bool.{Bool, true, false, cond}
+use Prim.Native.Nat.{ℕ, _+_, _*_, _/_, _%_, _<_}
+use mathlib.Core.Path.{_≡_, refl, sym, _∙_, ap}
+use mathlib.Core.Bool.{Bool, true, cond}
 use mathlib.Core.List.{List, [], _∷_}
 use native.Mathlib.Omega.{arith}
 use lib.Dec.{eqb, ltb}
-use borrow.Author.Tests.{lt-ltb, le-ltb, eq-eqb, ne-eqb, ltb-true, ltb-false, eqb-true}
-use Rattle.classes.specs.declared.Shape.{Shape}
+use borrow.Author.Tests.{ltb-true, eqb-true}
 use Rattle.classes.specs.ClusterBreak.{CN, CR, LF, L, «V», T, LV, LVT, RI, EX, SM, ZWJ, PP}
 use Rattle.classes.specs.Scalar.{ZWNJ, VS15, VS16}
 use Rattle.token.specs.Token.{scalarOf, kindOf, breakOf, emojiOf, selectorOf}
 use Rattle.parse.specs.State.{tokenAt}
-use Rattle.parse.specs.Rule.{Rule, Test, is, isBreak, isScalar, isEmoji, isSelector, oneOf, member}
-use Rattle.parse.specs.Shared.{emojis, emojiTurn, emojiExtension, emojiMark, newline}
-use Rattle.parse.proofs.Loop.{by-test, both}
+use Rattle.parse.specs.Rule.{Test, is, isBreak, isScalar, isEmoji, isSelector, oneOf, member}
+use Rattle.parse.specs.Shared.{emojis, newline}
+use Rattle.parse.proofs.Loop.{both}
 use Rattle.simple.specs.Grammar.{cluster, start, control, syllable, leading, vowel, trailing, other, isExtension, extension, extend, combining}
 use Rattle.tables.specs.Symbols.{special, simpleIn, simpleSymbol, simpleRegular, Regular}
 use Rattle.records.specs.declared.Parser.the-variants.{Simple}
-use lib.ListN.{length}
 use Rattle.residual.proofs.Residual.{Inside, Fine}
 use Rattle.tables.proofs.Cells.{agree, tabulate}
+use Rattle.tables.proofs.EmojiFine.{special-below, special-ZWNJ, special-VS15, special-VS16, fine-emojis as emojis-fine}
 use Rattle.tables.proofs.SimpleRules.{sampleAt, answerAt}
-
-pub special-below : (x : ℕ) → special x < 4
-unfolding special
-special-below x = go (eqb x ZWNJ) (eqb x VS15) (eqb x VS16)
-  where
-    go : (a b c : Bool) → cond a 1 (cond b 2 (cond c 3 0)) < 4
-    go true b c = omega arith
-    go false true c = omega arith
-    go false false true = omega arith
-    go false false false = omega arith
-
-pub special-ZWNJ : (x : ℕ) → eqb (special x) 1 ≡ eqb x ZWNJ
-unfolding special
-special-ZWNJ x = go (eqb x ZWNJ) (eqb x VS15) (eqb x VS16)
-  where
-    go : (a b c : Bool) → eqb (cond a 1 (cond b 2 (cond c 3 0))) 1 ≡ a
-    go true b c = refl
-    go false true c = refl
-    go false false true = refl
-    go false false false = refl
-
-pub special-VS15 : (x : ℕ) → eqb (special x) 2 ≡ eqb x VS15
-unfolding special
-special-VS15 x = by-test (eqb x ZWNJ) (λ e. rw e (sym (ap (λ y. eqb y VS15) (eqb-true x ZWNJ e)))) (λ e. rw e (go (eqb x VS15) (eqb x VS16)))
-  where
-    go : (b c : Bool) → eqb (cond b 2 (cond c 3 0)) 2 ≡ b
-    go true c = refl
-    go false true = refl
-    go false false = refl
-
-pub special-VS16 : (x : ℕ) → eqb (special x) 3 ≡ eqb x VS16
-unfolding special
-special-VS16 x = by-test (eqb x ZWNJ) (λ e. rw e (sym (ap (λ y. eqb y VS16) (eqb-true x ZWNJ e))))
-    (λ e. rw e (by-test (eqb x VS15) (λ f. rw f (sym (ap (λ y. eqb y VS16) (eqb-true x VS15 f)))) (λ f. rw f (go (eqb x VS16)))))
-  where
-    go : (c : Bool) → eqb (cond c 3 0) 3 ≡ c
-    go true = refl
-    go false = refl
 
 -- what a token is asked, as one number below 224, and the symbol of each
 abbrev feature : ℕ → ℕ
@@ -184,6 +145,9 @@ module _ (text : List ℕ) (regular : Regular Simple text) where
   break-EX : (i : ℕ) → Inside text i → isBreak EX text i ≡ true → is EX text i ≡ true
   break-EX i h e = ap (λ x. eqb x EX) (kind-break i h) ∙ e
 
+  fine-emojis : (P : ℕ → Type 0) → Fine text answer sample P emojis
+  fine-emojis = emojis-fine text answer sample good-emoji (good-break EX) (good-break ZWJ) (λ i h e. good-ZWNJ i h (break-EX i h e)) (λ i h e. good-VS15 i h (break-EX i h e)) (λ i h e. good-VS16 i h (break-EX i h e))
+
   module _ (P : ℕ → Type 0) (into : (i : ℕ) → P i → Inside text i) where
     fine-extension : Fine text answer sample P extension
     unfolding Fine extension extend combining
@@ -192,43 +156,6 @@ module _ (text : List ℕ) (regular : Regular Simple text) where
       (
         (λ i h. good-ZWNJ i (into i (h .0)) (h .1), (λ i h. refl, (λ i h. good-selector i (into i (h .0 .0)) (h .0 .1), (λ i h. refl, (tt, λ i h. refl))))),
         (λ i h. good-is SM i (into i (h .0)), ((tt, λ i h. refl), λ i h. refl)),
-      ),
-    )
-
-    fine-emojis : Fine text answer sample P emojis
-    unfolding Fine emojis emojiTurn emojiExtension emojiMark
-    fine-emojis = (
-      tt,
-      (
-        λ i h. good-emoji i h,
-        (
-          refl,
-          (
-            λ i h. refl,
-            (
-              (
-                λ i h. good-break EX i h,
-                (
-                  refl,
-                  (
-                    λ i h. good-ZWNJ i (h .0) (break-EX i (h .0) (h .1)),
-                    (
-                      λ i h. refl,
-                      (
-                        λ i h. good-VS16 i (h .0 .0) (break-EX i (h .0 .0) (h .0 .1)),
-                        (
-                          (tt, tt),
-                          (λ i h. good-VS15 i (h .0 .0 .0) (break-EX i (h .0 .0 .0) (h .0 .0 .1)), ((tt, tt), λ i h. refl)),
-                        ),
-                      ),
-                    ),
-                  ),
-                ),
-              ),
-              (λ i h. good-break ZWJ i h, (λ i h. refl, tt)),
-            ),
-          ),
-        ),
       ),
     )
 
@@ -290,4 +217,4 @@ module _ (text : List ℕ) (regular : Regular Simple text) where
 
   pub fine-simple : Fine text answer sample (Inside text) cluster
   unfolding Fine cluster start isExtension extension extend combining
-  fine-simple = ((λ i h. good-is PP i h, (refl, λ i h. refl)), ((λ i h. good-emoji i h, (fine-emojis _ (λ i h. h .0), fine-control _ (λ i h. h .0))), (λ i h. good-one (EX ∷ SM ∷ ZWJ ∷ []) i h, (refl, fine-extension _ (λ i h. h .0)))))
+  fine-simple = ((λ i h. good-is PP i h, (refl, λ i h. refl)), ((λ i h. good-emoji i h, (fine-emojis _, fine-control _ (λ i h. h .0))), (λ i h. good-one (EX ∷ SM ∷ ZWJ ∷ []) i h, (refl, fine-extension _ (λ i h. h .0)))))

@@ -37,7 +37,7 @@ fn piece_count(khmer: bool, decompose: u8, x: u32, count: u8) -> usize
 }
 
 // The same by record i's place in the columns.
-pub fn pieces_at<'s, 'a>(
+pub(crate) fn pieces_at<'s, 'a>(
     khmer: bool,
     wides: &'s [&'a [u32]; 2],
     bytes: &'s [&'a [u8]; 15],
@@ -55,7 +55,7 @@ pub fn pieces_at<'s, 'a>(
 }
 
 // Whether record i gives one token, itself.
-pub fn is_whole<'s, 'a>(
+pub(crate) fn is_whole<'s, 'a>(
     khmer: bool,
     wides: &'s [&'a [u32]; 2],
     bytes: &'s [&'a [u8]; 15],
@@ -74,7 +74,7 @@ pub fn is_whole<'s, 'a>(
 }
 
 // Whether a record gives no token, by its cells.
-pub fn gives_none(decompose: u8, count: u8) -> bool
+pub(crate) fn gives_none(decompose: u8, count: u8) -> bool
     ensures { λ r. ⌜ r ≡ givesNone decompose count ⌝ }
 {
     if decompose == 1 {
@@ -84,7 +84,7 @@ pub fn gives_none(decompose: u8, count: u8) -> bool
 }
 
 // Record i as a token, with the classes of this column and this emoji mark.
-pub fn own_token<'s, 'a>(
+pub(crate) fn own_token<'s, 'a>(
     wides: &'s [&'a [u32]; 2],
     bytes: &'s [&'a [u8]; 15],
     firsts: &'a [u16],
@@ -127,7 +127,7 @@ fn part_token<'s, 'a>(
 }
 
 // Token k of those that record i gives to the complex parser.
-pub fn piece<'s, 'a>(
+pub(crate) fn piece<'s, 'a>(
     khmer: bool,
     wides: &'s [&'a [u32]; 2],
     bytes: &'s [&'a [u8]; 15],
