@@ -4,8 +4,8 @@
  * Columns. Every column is a pointer and its count of elements. A pointer is not null, also where the count is 0. A column that is
  * written overlaps no other column of the call. Nothing is kept between two calls.
  *
- * Stack. A text of more than 256 tokens takes 96 KiB for its tokens. In the complex parsers each record marked decompose that has no
- * part takes a call of its own until the next token: 4,096 of them in a row were measured to need between 1.6 and 1.7 MiB on Arm.
+ * Stack. A call needs at most some 120 KiB, whatever the text (measured on Arm: 107 KiB for ezh_run, 120 KiB for ezh_step); 96 of them
+ * are for the tokens of the longest text.
  *
  * A text is 18 columns, in this order in every call. Fourteen with a cell for each record: scalar, cluster break, USE class, Myanmar
  * class, category, word class, then the marks (0 no, 1 yes) emoji for the simple, the Myanmar and the complex parser, pictograph,

@@ -1,6 +1,6 @@
 #!/usr/bin/env python3
 """Cases, seeded: random texts biased to the corners, exhaustive short texts, all word steps,
-damaged columns. Texts are in crate mode; `whole` turns a case into whole mode.
+damaged columns, full runs. Texts are in crate mode; `whole` turns a case into whole mode.
 
     generate.py PART [--seed N] [--count N]     (PART as in PARTS below)
 """
@@ -8,6 +8,8 @@ damaged columns. Texts are in crate mode; `whole` turns a case into whole mode.
 import argparse
 import itertools
 import random
+from functools import lru_cache, partial
+from typing import NamedTuple
 
 from reading import CLUSTER_BREAK, KHMER_SIGNS, MYANMAR, USE, WORD, barred_joiner
 
@@ -113,10 +115,10 @@ def chosen(rng, alphabet, least, most):
     return rng.choices(alphabet, k=rng.randint(least, most))
 
 
-def emoji_text(rng, alphabet):
+def emoji_text(rng, alphabet, emoji=EMOJI):
     text = []
     for _ in range(rng.choice([1, 1, 2, 3, 11])):
-        text += [EMOJI] + chosen(rng, EMOJI_TAIL, 0, 3) + [EMOJI_TAIL[2]] * rng.randint(0, 1)
+        text += [emoji] + chosen(rng, EMOJI_TAIL, 0, 3) + [EMOJI_TAIL[2]] * rng.randint(0, 1)
     return text + chosen(rng, alphabet, 0, 2)
 
 
@@ -266,14 +268,17 @@ def complex_text(rng, parts):
     return text
 
 
+@lru_cache(maxsize=1 << 16)
+def width(item, khmer):
+    """How many tokens of complex a record gives, if a sign has its part."""
+    fields = item.split(",")
+    is_sign = khmer and int(fields[0], 16) in KHMER_SIGNS
+    return int(fields[13]) if fields[11] == "1" else 2 if is_sign else 1
+
+
 def token_count(text, khmer):
     """How many tokens complex sees; every sign in these texts has its part."""
-    count = 0
-    for item in text:
-        fields = item.split(",")
-        is_sign = khmer and int(fields[0], 16) in KHMER_SIGNS
-        count += int(fields[13]) if fields[11] == "1" else 2 if is_sign else 1
-    return count
+    return sum([width(item, khmer) for item in text])
 
 
 def random_simple(rng, count):
@@ -569,11 +574,305 @@ def not_of_layout():
         yield f"C;whole;K;0;;{damage}"
 
 
-RANDOM = {"S": random_simple, "M": random_myanmar, "C": random_complex, "W": random_words, "full": random_full_runs}
+# ---- Full runs, for every way through an engine that goes by a table ------------------------
+#
+# To such an engine a text is regular where classes, marks and scalars agree as they do in real
+# texts: an emoji and LF have class O, LF no emoji mark, a letter that can begin a kinzi class C,
+# Khmer's U+17D2 class H. Its quickest way is for regular texts without split records, and one
+# record can send a whole text another way; so most texts here are regular, or almost.
+
+
+class Stock(NamedTuple):
+    """What the texts of one parser are made of. A piece is a function of (rng, stock)."""
+    kind: str
+    script: str
+    regular: list  # single records
+    emoji: list  # regular too
+    joiners: list  # U+034F under the classes that are not refused
+    long: list  # a cluster's head, and what may follow it in that cluster over and over
+    pieces: list
+    endings: list  # pieces for which the end of the text matters
+    odd: list  # records that are not regular: a list for each cause
+    odd_twins: dict  # a regular record's twins that are not
+
+
+def with_breaks(first, column, names):
+    """Each class under the cluster breaks that an emoji's extension takes, and under another."""
+    return [record(first + code, kind, **{column: name})
+            for code, name in enumerate(names) for kind in ("XX", "EX", "ZWJ")]
+
+
+def odd_records(column, mark, names):
+    others = [name for name in names if name != "O"]
+    return [[record(0x1F600, **{column: name, mark: 1}) for name in others],
+            [record(0x0A, "LF", **{column: name}) for name in others],
+            [record(0x0A, "LF", **{column: "O", mark: 1})]]
+
+
+def with_kinds(by_kind, *texts):
+    return [[by_kind[name] for name in text.split()] for text in texts]
+
+
+ALONE = [record(scalar, kind, "O", "O", category) for category in (0, 1, 1, 2) for scalar, kind in
+         ((0x0D, "CR"), (0x0A, "LF"), (0x20, "XX"), (0x200B, "CN"), (0x200C, "EX"), (0x200D, "ZWJ"))]
+REGULAR_EMOJI = [record(scalar, kind, "O", "O", pictograph=1, **emoji_marks(1)) for scalar, kind in
+                 ((0x1F600, "XX"), (0x1F600, "XX"), (0x1F600, "XX"), (0x1F3FB, "EX"), (0x0D, "CR"), (0x034F, "EX"))]
+ODD_LETTERS = [record(scalar, myanmar=name) for scalar in (0x1004, 0x101B, 0x105A) for name in MYANMAR if name != "C"]
+# Its scalars alone make a kinzi.
+SECOND_OF_KINZI, THIRD_OF_KINZI = [
+    right * 200 + [record(scalar, myanmar=name) for name in MYANMAR] + [record(scalar, myanmar="O", of_myanmar=1)]
+    for right, scalar in zip(KINZI[1:], (0x103A, 0x1039))]
+# Less than 31, for what a reph or a kinzi stands before.
+LONG_SIZES = (29, 30, 31, 31, 32, 32, 33, 33, 34, 64, 65)
+NOTED_AT = (30, 31, 32, 33, 64)
+
+
+def some_regular(rng, stock):
+    return chosen(rng, stock.regular, 1, 6)
+
+
+def some_emoji(rng, stock):
+    return emoji_text(rng, stock.regular, rng.choice(stock.emoji))
+
+
+def long_cluster(rng, stock):
+    """A cluster about 32 or 64 characters long, now and then with a stranger inside."""
+    head, *followers = rng.choice(stock.long)
+    size = rng.choice(LONG_SIZES)
+    text = ([head] + followers * size)[:size]
+    if rng.random() < 0.2:
+        text[rng.randrange(size)] = rng.choice(stock.regular)
+    return text
+
+
+def long_emoji(rng, stock):
+    """An emoji's cluster as long, with notes about its 32nd character."""
+    emoji = rng.choice(stock.emoji)
+    followers = rng.choice(([EMOJI_TAIL[4]], [EMOJI_TAIL[3]], [EMOJI_TAIL[2], emoji], [rng.choice(stock.joiners)]))
+    size = rng.choice(LONG_SIZES)
+    text = ([emoji] + followers * size)[:size]
+    for _ in range(rng.randint(0, 3)):
+        at = rng.choice(NOTED_AT)
+        text[at:at] = [rng.choice(EMOJI_TAIL[:2])] * rng.choice((1, 1, 1, 2, 40))
+    return text
+
+
+def some_joiners(rng, stock):
+    return [rng.choice(stock.joiners)] * rng.choice((1, 1, 1, 2, 3, 30, 32, 33, 65))
+
+
+def line_end(rng, stock):
+    cr, lf = STANDING_ALONE[:2]
+    return [cr] + [rng.choice(stock.joiners)] * rng.choice((0, 0, 1, 2)) + [lf]
+
+
+def some_kinzi(rng, stock):
+    joiners = [rng.choice(stock.joiners)] * rng.choice((0, 0, 0, 0, 0, 1, 1, 2, 27, 28, 29, 30))
+    return [rng.choice(KINZI[0]), rng.choice(SECOND_OF_KINZI), rng.choice(THIRD_OF_KINZI)] + joiners
+
+
+def syllable(heads, order, by_kind):
+    """The piece of a head and what follows it in the grammar's order, to the end or to a place
+    where any record comes instead."""
+    heads = [by_kind[name] for name in heads.split()]
+
+    def piece(rng, stock):
+        text = [rng.choice(heads)] + in_order(rng, order, by_kind)
+        return text if rng.random() < 0.5 else text[:rng.randint(1, len(text))] + [rng.choice(stock.regular)]
+
+    return piece
+
+
+ENDINGS = [long_cluster, long_emoji, some_joiners, line_end]
+PIECES = [some_regular] * 4 + [some_emoji] * 2 + ENDINGS
+
+
+def simple_stock():
+    """Every text of simple is regular; its odd records are all that it can tell apart."""
+    by_kind = dict(zip(KIND_SCALARS, SIMPLE_KINDS)) | {"ZWNJ": EMOJI_TAIL[3], "VS": EMOJI_TAIL[0], "034F": JOINER}
+    odd = [record(scalar, kind, simple=emoji, selector=selector) for emoji, selector, kind, scalar in
+           itertools.product((0, 1), (0, 1), CLUSTER_BREAK, (0x61, 0x200C, 0xFE0E, 0xFE0F, 0x034F))]
+    long = with_kinds(by_kind, "XX EX", "RI SM", "LV ZWJ", "CR EX", "XX ZWNJ", "XX VS", "LVT 034F", "PP PP", "T EX SM")
+    ordered_ = syllable("XX L V LV RI PP CR", "PP L V LV T LF EX ZWNJ SM VS ZWJ EX".split(), by_kind)
+    return Stock("s", "-", SIMPLE * 10 + odd, [EMOJI], [JOINER], long, PIECES + [ordered_] * 4, ENDINGS, [odd], {})
+
+
+def myanmar_stock():
+    by_kind = MYANMAR_BY_KIND | {"034F": JOINER}
+    joiners = [JOINER] * 40 + [record(0x034F, "EX", myanmar=name) for name in MYANMAR]
+    regular = (with_breaks(0xAA60, "myanmar", MYANMAR) + ALONE + EMOJI_TAIL + [JOINER] + STANDING_ALONE[3:5]
+               + KINZI[0] + KINZI[1] + KINZI[2])
+    long = with_kinds(by_kind, "C As", "IV VPre", "D VAbv", "DB VBlw", "C A", "C V", "C PT", "C VPst", "C H C",
+                      "C VPst A", "C PT A", "C 034F", "O 034F", "S 034F")
+    pieces = PIECES + [syllable("C C IV D DB", MYANMAR_ORDER, by_kind)] * 4 + [some_kinzi] * 2
+    odd = odd_records("myanmar", "of_myanmar", MYANMAR) + [ODD_LETTERS]
+    odd_twins = {STANDING_ALONE[1]: odd[1] + odd[2], **dict.fromkeys(KINZI[0], ODD_LETTERS)}
+    return Stock("m", "-", regular, REGULAR_EMOJI, joiners, long, pieces, ENDINGS + [some_kinzi] * 4, odd, odd_twins)
+
+
+def complex_stock(script):
+    by_kind = USE_BY_KIND | {"034F": JOINER} | ({"H": COENG} if script == "K" else {})
+    joiners = [JOINER] * 40 + [record(0x034F, "EX", USE[code]) for code in ALLOWED_JOINER_USE]
+    regular = with_breaks(0x0900, "use", USE) + ALONE + EMOJI_TAIL + [JOINER, COENG] + STANDING_ALONE[3:5]
+    long = with_kinds(by_kind, "B CMAbv", "GB CMBlw", "B SUB", "B SUB CMBlw", "B H B", "B VPre", "B VAbv", "B VBlw",
+                      "B VPst", "B VMPre", "B VMAbv VMBlw", "B VMPst H", "B FAbv", "B FBlw", "B FPst", "N HN N",
+                      "S SMAbv", "GB SMBlw", "B 034F", "R 034F", "CS 034F", "O 034F")
+    pieces = PIECES + [syllable("B B GB R CS", USE_ORDER, by_kind)] * 3 + [
+        syllable("N S GB", "HN N VS HN N HN SMAbv SMBlw".split(), by_kind)]
+    odd = odd_records("use", "complex_", USE) + [[record(0x17D2, "EX", name) for name in USE if name != "H"]]
+    odd_twins = {STANDING_ALONE[1]: odd[1] + odd[2], COENG: odd[3]}
+    return Stock("c", script, regular, REGULAR_EMOJI, joiners, long, pieces, ENDINGS, odd, odd_twins)
+
+
+def run_length(rng):
+    """Mostly short. The others have about 256 or 2,048 tokens, at one, two or three a record,
+    where an array for them has to grow; or they are about the longest."""
+    chance = rng.random()
+    if chance < 0.3:
+        return rng.randint(1, 20)
+    if chance < 0.984:
+        return rng.randint(5, 40)
+    if chance < 0.9982:
+        return rng.choice((86, 128, 256, 256)) + rng.randint(-4, 4)
+    if chance < 0.9997:
+        return rng.choice((683, 1024, 2048, 2048)) + rng.randint(-4, 4)
+    return 4096 - rng.randint(0, 4)
+
+
+def run_text(rng, stock):
+    """Pieces; the end of the text falls inside of one or behind it."""
+    length = run_length(rng)
+    ending = rng.choice(stock.endings)(rng, stock) if rng.random() < 0.3 else []
+    text = []
+    while len(text) < length - len(ending):
+        text += rng.choice(stock.pieces)(rng, stock)
+    if ending or length > 40 or rng.random() < 0.5:
+        text = text[:max(0, length - len(ending))]
+    return text + ending
+
+
+def some_places(rng, length, one, few):
+    """One place or a few, by these chances; the first and the last more often than others."""
+    chance = rng.random()
+    if chance < one:
+        return [rng.choice((0, length - 1, rng.randrange(length)))]
+    return rng.choices(range(length), k=rng.randint(2, 6)) if chance < one + few else []
+
+
+def with_odd(rng, stock, text):
+    """Records that are not regular, in any place; or one for an LF, a kinzi's letter, a U+17D2."""
+    places = some_places(rng, len(text), 0.2, 0.08)
+    if rng.random() < 0.1:
+        twinned = [at for at, item in enumerate(text) if item in stock.odd_twins]
+        places = rng.sample(twinned, 1) if twinned else []
+    for at in places:
+        text[at] = rng.choice(stock.odd_twins.get(text[at]) or rng.choice(stock.odd))
+    return text
+
+
+# Regular, and not.
+RARE_PARTS = [part(0x17D2, "EX", "H"), part(0x17D2, "EX", "B"), part(0x0A, "LF", "B"), part(0x0D, "CR", "B")]
+
+
+def run_parts(rng):
+    return complex_parts(rng) + (chosen(rng, RARE_PARTS, 1, 2) if rng.random() < 0.1 else [])
+
+
+def with_splits(rng, text, parts):
+    """Marked records and Khmer signs in no place, in one, a few, or in all."""
+    chance = rng.random()
+    if chance < 0.04:
+        return [with_parts(rng, parts)] * len(text)
+    if chance < 0.08:
+        return [with_parts(rng, parts) for _ in text]
+    for at in some_places(rng, len(text), 0.2, 0.25):
+        text[at] = with_parts(rng, parts)
+    return text
+
+
+BAD_CELLS = [(0, "D800"), (0, "DFFF"), (0, "110000"), (0, "FFFFFFFF"), (12, "65535"), (13, "4"), (13, "255")] + [
+    (column, str(value)) for column, outside in RECORD_EDGES.items() for value in (outside, 255)]
+# Refused by complex, and by Khmer.
+BAD_RECORDS = [record(0x034F, "EX", name) for code, name in enumerate(USE) if code not in ALLOWED_JOINER_USE] + [
+    record(sign, "SM", "VAbv") for sign in KHMER_SIGNS]
+
+
+def perhaps_damaged(rng, text):
+    """Now and then one bad record or cell, more often the last record's."""
+    chance = rng.random()
+    at = rng.choice((-1, rng.randrange(len(text))))
+    if chance < 0.01:
+        text[at] = rng.choice(BAD_RECORDS)
+    elif chance < 0.04:
+        fields = text[at].split(",")
+        column, value = rng.choice(BAD_CELLS)
+        fields[column] = value
+        text[at] = ",".join(fields)
+    return text
+
+
+ROOM = [0] * 20 + [1, 2, 100, -1]
+
+
+def random_runs(stock, rng, count):
+    """Full runs of one parser, into cells that just suffice, or more, or one less."""
+    for _ in range(count):
+        text = perhaps_noisy(rng, with_odd(rng, stock, run_text(rng, stock)))
+        parts = run_parts(rng) if stock.kind == "c" else []
+        text = perhaps_damaged(rng, with_splits(rng, text, parts) if parts else text)
+        tokens = token_count(text, stock.script == "K") if stock.kind == "c" else len(text)
+        yield case(stock.kind, max(0, 2 * tokens + rng.choice(ROOM)), text, parts, stock.script)
+
+
+def split_runs():
+    """Nothing but parts, as many as make an array's size and one more, and as many as can be."""
+    sizes = ((128, 2), (129, 2), (256, 1), (257, 1), (683, 3), (1024, 2), (2048, 1), (2049, 1), (4096, 3))
+    for (records, count), first, script in itertools.product(sizes, (0, 4, 7), "-K"):
+        yield case("c", 2 * records * count, [marked(first, count)] * records, PARTS, script)
+
+
+RUN_PLACES = [(kind, script, at) for kind, script in ("s-", "m-", "c-", "cK") for at in (0, 0.5, 1)]
+
+
+def damaged_runs():
+    """Every damage alone: of a record, in texts of each length up to 20 and in the last record of
+    long ones; of a part, among up to 20. Parsers and places come in turn; all of them where a check
+    may begin to go by columns, at 15, 16 and 17 records."""
+    turn = itertools.cycle(RUN_PLACES)
+    records, parts = [list(map(row, damages_())) for damages_ in (record_damages, part_damages)]
+    for length, damage in itertools.product(range(1, 21), records):
+        for place in RUN_PLACES if length in (15, 16, 17) else [next(turn)]:
+            yield damaged_run(place, length, damage)
+    for length, step in ((256, 1), (257, 1), (4096, 3)):
+        for damage in records[::step]:
+            yield damaged_run((*next(turn)[:2], 1), length, damage)
+    for length, damage in itertools.product(range(1, 21), parts):
+        kind, script, at = next(turn)
+        yield case(kind, 6, [row(SOUND)], replaced(row(SOUND_PART), length, at, damage), script)
+
+
+def damaged_run(place, length, damage):
+    """With two parts, or with seven, of which a run of four is there and still too long."""
+    kind, script, at = place
+    parts = [row(SOUND_PART)] * (7 if length % 2 else 2)
+    return case(kind, 6 * length, replaced(row(SOUND), length, at, damage), parts, script)
+
+
+def replaced(item, length, at, other):
+    """Items alike but for one, at 0 the first, at 1 the last."""
+    items = [item] * length
+    items[int(at * (length - 1))] = other
+    return items
+
+
+RANDOM = {"S": random_simple, "M": random_myanmar, "C": random_complex, "W": random_words, "full": random_full_runs,
+          "runs-s": partial(random_runs, simple_stock()), "runs-m": partial(random_runs, myanmar_stock()),
+          "runs-c": partial(random_runs, complex_stock("-")), "runs-khmer": partial(random_runs, complex_stock("K"))}
 FIXED = {"exhaustive-S": exhaustive_simple, "exhaustive-M": exhaustive_myanmar, "exhaustive-C": exhaustive_complex,
          "ordered-M": ordered_myanmar, "ordered-C": ordered_complex, "places": exhaustive_places,
          "steps": word_steps, "exhaustive-W": exhaustive_words, "refusals": refusals,
-         "long": long_refusals, "layout": not_of_layout}
+         "long": long_refusals, "layout": not_of_layout, "split-runs": split_runs,
+         "damaged-runs": damaged_runs}
 
 
 def generate(part_, seed, count):

@@ -47,12 +47,17 @@ def passed_and_taken(call):
     return int(following) - int(start), len(each) + noted
 
 
+def is_ordinary(crate):
+    """Whether the calls of crate mode have no cluster of 32 and no repeat (b): whole mode has the
+    same ones then."""
+    return all(passed == taken for passed, taken in map(passed_and_taken, crate.split("|")[1:]))
+
+
 def whole_fault(line, crate, whole):
     """What is wrong with an answer in whole mode, or None."""
     if crate[:2] in ("R ", "? "):
         return None if crate[:2] == whole[:2] else "refused in one mode only"
-    is_ordinary = all(passed == taken for passed, taken in map(passed_and_taken, crate.split("|")[1:]))
-    if is_ordinary and whole != crate:
+    if is_ordinary(crate) and whole != crate:
         return "no cluster of 32, no repeat, and still other answers than crate mode: " + whole
     tokens, *calls = whole.split("|")
     if any(passed != taken for passed, taken in map(passed_and_taken, calls)):

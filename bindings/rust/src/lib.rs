@@ -2,7 +2,7 @@
 //! Rattle. Every call ends and stays inside its columns, for every input, and bad input gets a [`Refusal`], never a default.
 //!
 //! [`Text`] builds the columns of a text, [`Columns`] lends columns that are there already. [`Columns::clusters`] and [`Columns::words`]
-//! iterate. A call takes stack as include/ezherbut.h says: up to 1.7 MiB for a text of 4,096 records without tokens.
+//! iterate. A call takes stack as include/ezherbut.h says: some 120 KiB at most.
 //!
 //! ```
 //! use ezherbut::codes::{category, cluster_break, myanmar_class, use_class, word_break};

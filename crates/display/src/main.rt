@@ -8,21 +8,6 @@ use clusters::write;
 use records::Parser;
 use segment::Segmenter;
 use segment::What;
-use text::BREAKS;
-use text::CATEGORIES;
-use text::COUNTS;
-use text::EMOJIS;
-use text::FIRSTS;
-use text::MYANMARS;
-use text::NO_MARKS;
-use text::PART_BREAKS;
-use text::PART_CATEGORIES;
-use text::PART_SCALARS;
-use text::PART_USES;
-use text::SCALARS;
-use text::SELECTORS;
-use text::USES;
-use text::WORDS;
 
 // As long as a cluster is found, draw it and go on at the next place. Every call passes a token, so the loop ends.
 fn show<'a>(
@@ -100,43 +85,28 @@ fn mode_name(mode: Mode) {
 
 // The text, for one parser in one mode.
 fn line(parser: Parser, mode: Mode) {
-    let scalars = SCALARS;
-    let breaks = BREAKS;
-    let uses = USES;
-    let myanmars = MYANMARS;
-    let categories = CATEGORIES;
-    let words = WORDS;
-    let emojis = EMOJIS;
-    let selectors = SELECTORS;
-    let decomposes = NO_MARKS;
-    let firsts = FIRSTS;
-    let counts = COUNTS;
-    let pscalars = PART_SCALARS;
-    let pbreaks = PART_BREAKS;
-    let puses = PART_USES;
-    let pcategories = PART_CATEGORIES;
     parser_name(parser);
     mode_name(mode);
     show(
         Segmenter::start(parser, mode),
-        &scalars,
-        &breaks,
-        &uses,
-        &myanmars,
-        &categories,
-        &words,
-        &emojis,
-        &emojis,
-        &emojis,
-        &emojis,
-        &selectors,
-        &decomposes,
-        &firsts,
-        &counts,
-        &pscalars,
-        &pbreaks,
-        &puses,
-        &pcategories,
+        &text::SCALARS,
+        &text::BREAKS,
+        &text::USES,
+        &text::MYANMARS,
+        &text::CATEGORIES,
+        &text::WORDS,
+        &text::EMOJIS,
+        &text::EMOJIS,
+        &text::EMOJIS,
+        &text::EMOJIS,
+        &text::SELECTORS,
+        &text::NO_MARKS,
+        &text::FIRSTS,
+        &text::COUNTS,
+        &text::PART_SCALARS,
+        &text::PART_BREAKS,
+        &text::PART_USES,
+        &text::PART_CATEGORIES,
     );
     write(b"\n");
 }

@@ -6,6 +6,7 @@ use records::Verdict;
 use records::cells::first8;
 use records::cells::first16;
 use records::cells::first32;
+use records::check_in;
 
 // Column k is `other` cells long, the rest `usual`.
 fn column8(s: &[u8], column: u8, k: u8, other: usize, usual: usize) -> &[u8] {
@@ -29,10 +30,19 @@ fn column32(s: &[u32], column: u8, k: u8, other: usize, usual: usize) -> &[u32] 
     first32(s, usual)
 }
 
-fn check(b: &[u8], h: &[u16], w: &[u32], k: u8, other: usize, usual: usize) -> Verdict {
-    records::check(
-        Parser::Khmer,
+fn check<'a>(
+    b: &'a [u8],
+    h: &'a [u16],
+    w: &'a [u32],
+    k: u8,
+    other: usize,
+    usual: usize,
+) -> Verdict {
+    let wides = [
         column32(w, 0, k, other, usual),
+        column32(w, 14, k, other, usual),
+    ];
+    let bytes = [
         column8(b, 1, k, other, usual),
         column8(b, 2, k, other, usual),
         column8(b, 3, k, other, usual),
@@ -44,17 +54,21 @@ fn check(b: &[u8], h: &[u16], w: &[u32], k: u8, other: usize, usual: usize) -> V
         column8(b, 9, k, other, usual),
         column8(b, 10, k, other, usual),
         column8(b, 11, k, other, usual),
-        column16(h, 12, k, other, usual),
         column8(b, 13, k, other, usual),
-        column32(w, 14, k, other, usual),
         column8(b, 15, k, other, usual),
         column8(b, 16, k, other, usual),
         column8(b, 17, k, other, usual),
+    ];
+    check_in(
+        Parser::Khmer,
+        &wides,
+        &bytes,
+        column16(h, 12, k, other, usual),
     )
 }
 
 // One sign for each of the 18 columns, and one more where none is of another length.
-fn each_column(b: &[u8], h: &[u16], w: &[u32], other: usize, usual: usize) {
+fn each_column<'a>(b: &'a [u8], h: &'a [u16], w: &'a [u32], other: usize, usual: usize) {
     verdicts::decimal(other as u64);
     write(b" among ");
     verdicts::decimal(usual as u64);

@@ -9,6 +9,10 @@ use classes::use_class;
 use classes::word_break;
 use records::Parser;
 use records::Verdict;
+use records::check_in;
+ghost use mathlib.Core.Path.{_≡_};
+ghost use Prim.Native.Nat.{_<_};
+ghost use lib.ListN.{length};
 
 // A cell of the 18 columns, counted from 0 in the order of the check's parameters, and its value.
 struct Cell {
@@ -72,11 +76,21 @@ fn value(cells: Cells, column: u8, index: u8, usual: u32) -> u32 {
     usual
 }
 
-fn column8(cells: Cells, column: u8) -> [u8; 2] {
-    [
-        (value(cells, column, 0, 0) % 256) as u8,
-        (value(cells, column, 1, 0) % 256) as u8,
-    ]
+// Two cells for each of the 18 columns, one column after the other: of these the columns of bytes are cut.
+fn all_cells(cells: Cells) -> [u8; 36] {
+    let mut all = [0u8; 36];
+    for i in 0..36u8 {
+        all[i as usize] = (value(cells, i / 2, i % 2, 0) % 256) as u8;
+    }
+    all
+}
+
+fn column8(all: &[u8], column: usize) -> &[u8]
+    requires { ⌜ (column < 18) × (length (now all) ≡ 36) ⌝ }
+{
+    let from = 2 * column;
+    let to = from + 2;
+    &all[from..to]
 }
 
 fn column16(cells: Cells, column: u8) -> [u16; 2] {
@@ -90,90 +104,41 @@ fn column32(cells: Cells, column: u8) -> [u32; 2] {
     [value(cells, column, 0, 0x41), value(cells, column, 1, 0x41)]
 }
 
-// Arrays of two are columns of two.
-fn check_two(
+fn check_two<'a>(
     parser: Parser,
-    scalars: &[u32; 2],
-    breaks: &[u8; 2],
-    uses: &[u8; 2],
-    myanmars: &[u8; 2],
-    categories: &[u8; 2],
-    words: &[u8; 2],
-    semojis: &[u8; 2],
-    memojis: &[u8; 2],
-    cemojis: &[u8; 2],
-    pictographs: &[u8; 2],
-    selectors: &[u8; 2],
-    decomposes: &[u8; 2],
-    firsts: &[u16; 2],
-    counts: &[u8; 2],
-    pscalars: &[u32; 2],
-    pbreaks: &[u8; 2],
-    puses: &[u8; 2],
-    pcategories: &[u8; 2],
+    scalars: &'a [u32; 2],
+    pscalars: &'a [u32; 2],
+    all: &'a [u8; 36],
+    firsts: &'a [u16; 2],
 ) -> Verdict {
-    records::check(
-        parser,
-        scalars,
-        breaks,
-        uses,
-        myanmars,
-        categories,
-        words,
-        semojis,
-        memojis,
-        cemojis,
-        pictographs,
-        selectors,
-        decomposes,
-        firsts,
-        counts,
-        pscalars,
-        pbreaks,
-        puses,
-        pcategories,
-    )
+    let wides: [&[u32]; 2] = [scalars, pscalars];
+    let bytes = [
+        column8(all, 1),
+        column8(all, 2),
+        column8(all, 3),
+        column8(all, 4),
+        column8(all, 5),
+        column8(all, 6),
+        column8(all, 7),
+        column8(all, 8),
+        column8(all, 9),
+        column8(all, 10),
+        column8(all, 11),
+        column8(all, 13),
+        column8(all, 15),
+        column8(all, 16),
+        column8(all, 17),
+    ];
+    check_in(parser, &wides, &bytes, firsts)
 }
 
 fn check(parser: Parser, cells: Cells) -> Verdict {
-    let scalars = column32(cells, 0);
-    let breaks = column8(cells, 1);
-    let uses = column8(cells, 2);
-    let myanmars = column8(cells, 3);
-    let categories = column8(cells, 4);
-    let words = column8(cells, 5);
-    let semojis = column8(cells, 6);
-    let memojis = column8(cells, 7);
-    let cemojis = column8(cells, 8);
-    let pictographs = column8(cells, 9);
-    let selectors = column8(cells, 10);
-    let decomposes = column8(cells, 11);
-    let firsts = column16(cells, 12);
-    let counts = column8(cells, 13);
-    let pscalars = column32(cells, 14);
-    let pbreaks = column8(cells, 15);
-    let puses = column8(cells, 16);
-    let pcategories = column8(cells, 17);
     check_two(
         parser,
-        &scalars,
-        &breaks,
-        &uses,
-        &myanmars,
-        &categories,
-        &words,
-        &semojis,
-        &memojis,
-        &cemojis,
-        &pictographs,
-        &selectors,
-        &decomposes,
-        &firsts,
-        &counts,
-        &pscalars,
-        &pbreaks,
-        &puses,
-        &pcategories,
+        &column32(cells, 0),
+        &column32(cells, 14),
+        &all_cells(cells),
+        &column16(cells, 12),
     )
 }
 

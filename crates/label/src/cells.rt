@@ -3,7 +3,6 @@ use classes::Mode;
 use parse::Cluster;
 use parse::Pushed;
 use records::Parser;
-use segment::Answer;
 use segment::Segmenter;
 use segment::What;
 
@@ -91,54 +90,13 @@ fn put_cluster(
     seen
 }
 
-// One call on the columns that a label has: every other column says "rest", Other or no, and there are no parts.
-fn next(
-    s: Segmenter,
-    scalars: &[u32],
-    breaks: &[u8],
-    myanmars: &[u8],
-    categories: &[u8],
-    emojis: &[u8],
-    selectors: &[u8],
-    rests: &[u8],
-    zeros: &[u8],
-    firsts: &[u16],
-) -> Answer {
-    s.next(
-        scalars,
-        breaks,
-        rests,
-        myanmars,
-        categories,
-        zeros,
-        emojis,
-        emojis,
-        emojis,
-        emojis,
-        selectors,
-        zeros,
-        firsts,
-        zeros,
-        &scalars[..0],
-        &zeros[..0],
-        &zeros[..0],
-        &zeros[..0],
-    )
-}
-
 // Every call from the start. Each passes a token, so the turns are never used up.
-pub(crate) fn collect(
+pub(crate) fn collect<'s, 'a>(
     parser: Parser,
     mode: Mode,
-    scalars: &[u32],
-    breaks: &[u8],
-    myanmars: &[u8],
-    categories: &[u8],
-    emojis: &[u8],
-    selectors: &[u8],
-    rests: &[u8],
-    zeros: &[u8],
-    firsts: &[u16],
+    wides: &'s [&'a [u32]; 2],
+    bytes: &'s [&'a [u8]; 15],
+    firsts: &'a [u16],
     oscalars: &mut Scalars,
     shapes: &mut Bytes,
     begins: &mut Bytes,
@@ -150,18 +108,7 @@ pub(crate) fn collect(
     let mut state = Segmenter::start(parser, mode);
     let mut turns = u64::MAX;
     while turns > 0 {
-        let answer = next(
-            state,
-            scalars,
-            breaks,
-            myanmars,
-            categories,
-            emojis,
-            selectors,
-            rests,
-            zeros,
-            firsts,
-        );
+        let answer = state.next_in(wides, bytes, firsts);
         let cluster = answer.cluster;
         let what = answer.what;
         state = answer.state;

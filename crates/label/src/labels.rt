@@ -67,18 +67,12 @@ fn refused(number: u8, index: usize, scalars: &[u32]) {
 }
 
 // Whether the mode was drawn.
-fn draw_mode(
+fn draw_mode<'s, 'a>(
     parser: Parser,
     mode: Mode,
-    scalars: &[u32],
-    breaks: &[u8],
-    myanmars: &[u8],
-    categories: &[u8],
-    emojis: &[u8],
-    selectors: &[u8],
-    rests: &[u8],
-    zeros: &[u8],
-    firsts: &[u16],
+    wides: &'s [&'a [u32]; 2],
+    bytes: &'s [&'a [u8]; 15],
+    firsts: &'a [u16],
 ) -> bool {
     let mut oscalars = [0u32; 8192];
     let mut shapes = [0u8; 8192];
@@ -89,14 +83,8 @@ fn draw_mode(
     let outcome = collect(
         parser,
         mode,
-        scalars,
-        breaks,
-        myanmars,
-        categories,
-        emojis,
-        selectors,
-        rests,
-        zeros,
+        wides,
+        bytes,
         firsts,
         &mut oscalars,
         &mut shapes,
@@ -121,52 +109,47 @@ fn draw_mode(
             true
         }
         Outcome::Refused { number, index } => {
-            refused(number, index, scalars);
+            refused(number, index, wides[0]);
             false
         }
     }
 }
 
-// Crate mode over whole mode, unless the label is refused.
-fn draw_modes(
-    scalars: &[u32],
-    breaks: &[u8],
-    myanmars: &[u8],
-    categories: &[u8],
-    emojis: &[u8],
-    selectors: &[u8],
-    rests: &[u8],
-    zeros: &[u8],
-    firsts: &[u16],
+// Crate mode over whole mode, unless the label is refused. Every column that a label does not have says "rest", Other or no, and there
+// are no parts.
+fn draw_modes<'a>(
+    scalars: &'a [u32],
+    breaks: &'a [u8],
+    myanmars: &'a [u8],
+    categories: &'a [u8],
+    emojis: &'a [u8],
+    selectors: &'a [u8],
+    rests: &'a [u8],
+    zeros: &'a [u8],
+    firsts: &'a [u16],
 ) {
     let parser = parser_of(scalars);
-    let drawn = draw_mode(
-        parser,
-        Mode::Crate,
-        scalars,
+    let wides = [scalars, &scalars[..0]];
+    let none = &zeros[..0];
+    let bytes = [
         breaks,
+        rests,
         myanmars,
         categories,
+        zeros,
+        emojis,
+        emojis,
+        emojis,
         emojis,
         selectors,
-        rests,
         zeros,
-        firsts,
-    );
-    if drawn {
-        draw_mode(
-            parser,
-            Mode::Whole,
-            scalars,
-            breaks,
-            myanmars,
-            categories,
-            emojis,
-            selectors,
-            rests,
-            zeros,
-            firsts,
-        );
+        zeros,
+        none,
+        none,
+        none,
+    ];
+    if draw_mode(parser, Mode::Crate, &wides, &bytes, firsts) {
+        draw_mode(parser, Mode::Whole, &wides, &bytes, firsts);
     }
 }
 

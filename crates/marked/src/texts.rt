@@ -91,50 +91,45 @@ fn is_complex(parser: Parser) -> bool {
     }
 }
 
-// The first n records and the first m parts.
-fn next_of(
+// The first n records and the first m parts; `unmarked` is every column of marks that no case has.
+fn next_of<'a>(
     s: Segmenter,
     n: usize,
     m: usize,
-    scalars: &[u32],
-    breaks: &[u8],
-    uses: &[u8],
-    myanmars: &[u8],
-    categories: &[u8],
-    words: &[u8],
-    semojis: &[u8],
-    memojis: &[u8],
-    cemojis: &[u8],
-    pictographs: &[u8],
-    selectors: &[u8],
-    decomposes: &[u8],
-    firsts: &[u16],
-    counts: &[u8],
-    pscalars: &[u32],
-    pbreaks: &[u8],
-    puses: &[u8],
-    pcategories: &[u8],
+    scalars: &'a [u32],
+    breaks: &'a [u8],
+    uses: &'a [u8],
+    myanmars: &'a [u8],
+    categories: &'a [u8],
+    words: &'a [u8],
+    semojis: &'a [u8],
+    unmarked: &'a [u8],
+    firsts: &'a [u16],
+    counts: &'a [u8],
+    pscalars: &'a [u32],
+    pbreaks: &'a [u8],
+    puses: &'a [u8],
+    pcategories: &'a [u8],
 ) -> Answer {
-    s.next(
-        first32(scalars, n),
+    let wides = [first32(scalars, n), first32(pscalars, m)];
+    let bytes = [
         first8(breaks, n),
         first8(uses, n),
         first8(myanmars, n),
         first8(categories, n),
         first8(words, n),
         first8(semojis, n),
-        first8(memojis, n),
-        first8(cemojis, n),
-        first8(pictographs, n),
-        first8(selectors, n),
-        first8(decomposes, n),
-        first16(firsts, n),
+        first8(unmarked, n),
+        first8(unmarked, n),
+        first8(unmarked, n),
+        first8(unmarked, n),
+        first8(unmarked, n),
         first8(counts, n),
-        first32(pscalars, m),
         first8(pbreaks, m),
         first8(puses, m),
         first8(pcategories, m),
-    )
+    ];
+    s.next_in(&wides, &bytes, first16(firsts, n))
 }
 
 pub(crate) fn next(s: Segmenter, t: Text) -> Answer {
@@ -145,45 +140,23 @@ pub(crate) fn next(s: Segmenter, t: Text) -> Answer {
     let c = t.c;
     let d = t.d;
     let classes = column8(a.class, b.class, c.class, d.class);
-    let scalars = column32(a.scalar, b.scalar, c.scalar, d.scalar);
-    let breaks = own(is_simple(parser), classes, cluster_break::XX);
-    let uses = own(is_complex(parser), classes, use_class::REST);
-    let myanmars = own(is_myanmar(parser), classes, myanmar_class::REST);
-    let categories = [category::Other; 32];
-    let words = [word_break::Other; 32];
-    let semojis = column8(a.emoji, b.emoji, c.emoji, d.emoji);
-    let memojis = [0u8; 32];
-    let cemojis = [0u8; 32];
-    let pictographs = [0u8; 32];
-    let selectors = [0u8; 32];
-    let decomposes = [0u8; 32];
-    let firsts = [0u16; 32];
-    let counts = column8(a.count, b.count, c.count, d.count);
-    let pscalars = [part.scalar];
-    let pbreaks = [cluster_break::XX];
-    let puses = [part.class];
-    let pcategories = [category::Other];
     next_of(
         s,
         t.len,
         part.count as usize,
-        &scalars,
-        &breaks,
-        &uses,
-        &myanmars,
-        &categories,
-        &words,
-        &semojis,
-        &memojis,
-        &cemojis,
-        &pictographs,
-        &selectors,
-        &decomposes,
-        &firsts,
-        &counts,
-        &pscalars,
-        &pbreaks,
-        &puses,
-        &pcategories,
+        &column32(a.scalar, b.scalar, c.scalar, d.scalar),
+        &own(is_simple(parser), classes, cluster_break::XX),
+        &own(is_complex(parser), classes, use_class::REST),
+        &own(is_myanmar(parser), classes, myanmar_class::REST),
+        &[category::Other; 32],
+        &[word_break::Other; 32],
+        &column8(a.emoji, b.emoji, c.emoji, d.emoji),
+        &[0u8; 32],
+        &[0u16; 32],
+        &column8(a.count, b.count, c.count, d.count),
+        &[part.scalar],
+        &[cluster_break::XX],
+        &[part.class],
+        &[category::Other],
     )
 }

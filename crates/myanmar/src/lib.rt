@@ -127,7 +127,7 @@ fn parse_base(s: Parse, text: &[u64]) -> Parse
     parse_finals(s, text)
 }
 
-fn begins_kinzi(x: u32) -> bool
+pub fn begins_kinzi(x: u32) -> bool
     ensures { λ r. ⌜ r ≡ member kinziFirsts x ⌝ }
 {
     if x == scalar::NGA {

@@ -65,7 +65,7 @@ joiner-going text s h = go (going s) _ h
     go true x e = refl
     go false x e = e
 
-hop-falls : (text : List ℕ) → Falls text (onJoiner text) (hop text)
+pub hop-falls : (text : List ℕ) → Falls text (onJoiner text) (hop text)
 hop-falls text s h =
     let t = tokenAt text (s .at) in
     rw (← put-same (turns text) (λ n cs q. refl) t s Other)

@@ -1,4 +1,4 @@
--- What the walks over a `Reader` share. The struct is Copy, and its fields stand in the order in which `step`, `new` and `read` take them, so what
+-- What the walks over a `Reader` share. The struct is Copy, and its fields stand in the order in which the stepping call, `new` and `read` take them, so what
 -- its fields own is what those ask of their caller. No definition here names a column: the lists are the struct's own.
 --     D, L, R              the struct's description, its laws and its row, at a lifetime
 --     args, cells, flats   its fields' values, their machine values by field, and in a row
@@ -37,9 +37,9 @@ use Rattle.reader.specs.Reading.{movedTo}
 use Rattle.reader.specs.declared.Reader.{Reader}
 use Rattle.reader.proofs.Reader as T
 use Rattle.reader.proofs.Reader.Laws as T′
-use Rattle.reader.proofs.step as step
+use Rattle.segment.proofs.Segmenter.next as step
 
--- 'a, the one lifetime of `new`, `next`, `read` and `step`
+-- 'a, the one lifetime of `new`, `next`, `read` and the stepping call
 abbrev pub α : Lft → NamedLft
 α κ = namedLft 1 0 tt (κ, tt)
 
@@ -109,7 +109,7 @@ module _ (a : NamedLft) where
   pub fields-are : (d : Reader) → Is R d (mach d ∷ []) → FieldsAre d
   fields-are d is = LL.owed D L d (mach d ∷ []) is
 
--- ---- the parameters of `new`, `read` and `step`, which are a state and the columns
+-- ---- the parameters of `new`, `read` and the stepping call, which are a state and the columns
 abbrev pub Params : Lfts 1 → List RattleType
 Params κs = typesAt (step.signature .params) κs
 

@@ -29,52 +29,6 @@ pub struct Reader<'a> {
     pub pcategories: &'a [u8],
 }
 
-// The stepping call with one lifetime for all columns: the functions over a reader call this one, which needs no walk.
-fn step<'a>(
-    state: Segmenter,
-    scalars: &'a [u32],
-    breaks: &'a [u8],
-    uses: &'a [u8],
-    myanmars: &'a [u8],
-    categories: &'a [u8],
-    words: &'a [u8],
-    semojis: &'a [u8],
-    memojis: &'a [u8],
-    cemojis: &'a [u8],
-    pictographs: &'a [u8],
-    selectors: &'a [u8],
-    decomposes: &'a [u8],
-    firsts: &'a [u16],
-    counts: &'a [u8],
-    pscalars: &'a [u32],
-    pbreaks: &'a [u8],
-    puses: &'a [u8],
-    pcategories: &'a [u8],
-) -> Answer
-    ensures { λ r. ⌜ r ≡ nextOf state (textOf (now (scalars .entry)) (now (breaks .entry)) (now (uses .entry)) (now (myanmars .entry)) (now (categories .entry)) (now (words .entry)) (now (semojis .entry)) (now (memojis .entry)) (now (cemojis .entry)) (now (pictographs .entry)) (now (selectors .entry)) (now (decomposes .entry)) (now (firsts .entry)) (now (counts .entry)) (now (pscalars .entry)) (now (pbreaks .entry)) (now (puses .entry)) (now (pcategories .entry))) ⌝ }
-{
-    state.next(
-        scalars,
-        breaks,
-        uses,
-        myanmars,
-        categories,
-        words,
-        semojis,
-        memojis,
-        cemojis,
-        pictographs,
-        selectors,
-        decomposes,
-        firsts,
-        counts,
-        pscalars,
-        pbreaks,
-        puses,
-        pcategories,
-    )
-}
-
 impl<'a> Reader<'a> {
     // A reader that stands where the state does: `Segmenter::start` for the start of the text.
     pub fn new(
@@ -127,8 +81,7 @@ impl<'a> Reader<'a> {
     pub fn next(self) -> Answer
         ensures { λ r. ⌜ r ≡ answerOf (self .entry) ⌝ }
     {
-        step(
-            self.state,
+        self.state.next(
             self.scalars,
             self.breaks,
             self.uses,
@@ -154,8 +107,7 @@ impl<'a> Reader<'a> {
     pub fn advance(&mut self) -> Answer
         ensures { λ r. ⌜ (r ≡ answerOf (now (self .entry))) × (now (self .exit) ≡ movedTo (now (self .entry)) (answerOf (now (self .entry)) .state)) ⌝ }
     {
-        let answer = step(
-            self.state,
+        let answer = self.state.next(
             self.scalars,
             self.breaks,
             self.uses,

@@ -1,3 +1,4 @@
+pub mod Sweep
 pub mod Refusals
 pub mod Sound
 pub mod Text

@@ -2,6 +2,7 @@
 use Prim.Native.Nat.{ℕ}
 use mathlib.Core.List.{List, [], _∷_}
 use lib.ListN.{length, getD}
+use denote.Ref.{RefT, now}
 use Rattle.records.specs.declared.Row.{Row}
 use Rattle.records.specs.declared.PartRow.{PartRow}
 
@@ -54,6 +55,21 @@ textOf scalars breaks uses myanmars categories words semojis memojis cemojis pic
       };
       parts = record { pscalars = pscalars; pbreaks = pbreaks; puses = puses; pcategories = pcategories };
     }
+
+-- column k of the lent ones, and the empty one past the last
+abbrev pub column : List (RefT (List ℕ)) → ℕ → List ℕ
+column columns k = now (getD columns k (record { ptr = (0, 0); name = 0; now = [] }))
+
+-- the text of the packed columns: two of scalars, fifteen of bytes, and the first parts
+unfoldable pub textIn : List (RefT (List ℕ)) → List (RefT (List ℕ)) → List ℕ → Text
+textIn wides bytes firsts =
+    textOf (column wides 0) (column bytes 0) (column bytes 1) (column bytes 2) (column bytes 3) (column bytes 4) (column bytes 5)
+    (column bytes 6) (column bytes 7) (column bytes 8) (column bytes 9) (column bytes 10) firsts (column bytes 11) (column wides 1)
+    (column bytes 12) (column bytes 13) (column bytes 14)
+
+-- the same of the references, as a contract has them
+abbrev pub lent : RefT (List (RefT (List ℕ))) → RefT (List (RefT (List ℕ))) → RefT (List ℕ) → Text
+lent wides bytes firsts = textIn (now wides) (now bytes) (now firsts)
 
 -- what stands at an index of a column
 abbrev pub cell : List ℕ → ℕ → ℕ

@@ -1,19 +1,20 @@
 // The check of a lent text: refusals 1 to 7 of document 01, in its testing order, and the word run's own check. Every call of the
 // library begins with one of the two and hands a refusal out unchanged.
 pub mod cells;
+mod columns;
 mod judge;
 mod sets;
 
-use judge::is_khmer;
+use columns::passes;
 pub use judge::is_outside;
 pub use judge::is_sign;
 use judge::judge_lengths;
-use sets::judge_parts;
-use sets::judge_records;
+use sets::judge_each;
+use sets::judge_shape;
 use sets::judge_signs;
 use sets::judge_words;
 ghost use mathlib.Core.Path.{_≡_};
-ghost use Rattle.records.specs.Text.{textOf};
+ghost use Rattle.records.specs.Text.{textOf, lent};
 ghost use Rattle.records.specs.Refusals.{verdict, wordVerdict};
 
 // What a refusal's index counts.
@@ -69,63 +70,51 @@ pub struct PartRow {
 // The longest column that is accepted.
 pub const MOST: usize = 4096;
 
-// The verdict on a whole text.
-pub fn check(
+// The verdict on a whole text, its columns packed: two of scalars (records, parts), fifteen of bytes, and the first parts.
+pub fn check_in<'s, 'a>(
     parser: Parser,
-    scalars: &[u32],
-    breaks: &[u8],
-    uses: &[u8],
-    myanmars: &[u8],
-    categories: &[u8],
-    words: &[u8],
-    semojis: &[u8],
-    memojis: &[u8],
-    cemojis: &[u8],
-    pictographs: &[u8],
-    selectors: &[u8],
-    decomposes: &[u8],
-    firsts: &[u16],
-    counts: &[u8],
-    pscalars: &[u32],
-    pbreaks: &[u8],
-    puses: &[u8],
-    pcategories: &[u8],
+    wides: &'s [&'a [u32]; 2],
+    bytes: &'s [&'a [u8]; 15],
+    firsts: &'a [u16],
 ) -> Verdict
-    ensures { λ r. ⌜ r ≡ verdict parser (textOf (now (scalars .entry)) (now (breaks .entry)) (now (uses .entry)) (now (myanmars .entry)) (now (categories .entry)) (now (words .entry)) (now (semojis .entry)) (now (memojis .entry)) (now (cemojis .entry)) (now (pictographs .entry)) (now (selectors .entry)) (now (decomposes .entry)) (now (firsts .entry)) (now (counts .entry)) (now (pscalars .entry)) (now (pbreaks .entry)) (now (puses .entry)) (now (pcategories .entry))) ⌝ }
+    ensures { λ r. ⌜ r ≡ verdict parser (lent (wides .entry) (bytes .entry) (firsts .entry)) ⌝ }
 {
-    let records = [
-        scalars.len(),
-        breaks.len(),
-        uses.len(),
-        myanmars.len(),
-        categories.len(),
-        words.len(),
-        semojis.len(),
-        memojis.len(),
-        cemojis.len(),
-        pictographs.len(),
-        selectors.len(),
-        decomposes.len(),
-        firsts.len(),
-        counts.len(),
-    ];
-    let parts = [
-        pscalars.len(),
-        pbreaks.len(),
-        puses.len(),
-        pcategories.len(),
-    ];
-    let shape = judge_lengths(&records, &parts);
+    let shape = judge_shape(wides, bytes, firsts);
     let Verdict::Accepted = shape else {
         return shape;
     };
-    let by_part = judge_parts(parser, pscalars, pbreaks, puses, pcategories);
-    let Verdict::Accepted = by_part else {
-        return by_part;
-    };
-    let by_record = judge_records(
-        parser,
-        scalars,
+    if passes(wides, bytes, firsts) {
+        return judge_signs(parser, wides, bytes, firsts);
+    }
+    judge_each(parser, wides, bytes, firsts)
+}
+
+// The same of the columns one by one.
+pub fn check<'a>(
+    parser: Parser,
+    scalars: &'a [u32],
+    breaks: &'a [u8],
+    uses: &'a [u8],
+    myanmars: &'a [u8],
+    categories: &'a [u8],
+    words: &'a [u8],
+    semojis: &'a [u8],
+    memojis: &'a [u8],
+    cemojis: &'a [u8],
+    pictographs: &'a [u8],
+    selectors: &'a [u8],
+    decomposes: &'a [u8],
+    firsts: &'a [u16],
+    counts: &'a [u8],
+    pscalars: &'a [u32],
+    pbreaks: &'a [u8],
+    puses: &'a [u8],
+    pcategories: &'a [u8],
+) -> Verdict
+    ensures { λ r. ⌜ r ≡ verdict parser (textOf (now (scalars .entry)) (now (breaks .entry)) (now (uses .entry)) (now (myanmars .entry)) (now (categories .entry)) (now (words .entry)) (now (semojis .entry)) (now (memojis .entry)) (now (cemojis .entry)) (now (pictographs .entry)) (now (selectors .entry)) (now (decomposes .entry)) (now (firsts .entry)) (now (counts .entry)) (now (pscalars .entry)) (now (pbreaks .entry)) (now (puses .entry)) (now (pcategories .entry))) ⌝ }
+{
+    let wides = [scalars, pscalars];
+    let bytes = [
         breaks,
         uses,
         myanmars,
@@ -137,17 +126,12 @@ pub fn check(
         pictographs,
         selectors,
         decomposes,
-        firsts,
         counts,
-        pscalars.len(),
-    );
-    let Verdict::Accepted = by_record else {
-        return by_record;
-    };
-    if is_khmer(parser) {
-        return judge_signs(scalars, decomposes, firsts, counts, pscalars);
-    }
-    Verdict::Accepted
+        pbreaks,
+        puses,
+        pcategories,
+    ];
+    check_in(parser, &wides, &bytes, firsts)
 }
 
 // The verdict on the two columns of a word run.

@@ -3,102 +3,89 @@ use crate::Parser;
 use crate::PartRow;
 use crate::Row;
 use crate::Verdict;
+use crate::cells::byte;
 use crate::cells::cell8;
 use crate::cells::cell16;
-use crate::cells::cell32;
+use crate::cells::length32;
+use crate::cells::wide;
 use crate::judge::is_khmer;
+use crate::judge::judge_lengths;
 use crate::judge::judge_part;
 use crate::judge::judge_record;
 use crate::judge::judge_sign;
 use crate::judge::judge_word;
 ghost use mathlib.Core.Path.{_≡_};
 ghost use lib.ListN.{length};
-ghost use Rattle.records.specs.Text.{rowOf, partOf, textOf, cell};
-ghost use Rattle.records.specs.Refusals.{over, judgeWord, judgePart, judgeParts, judgeRecord, judgeRecords, judgeSign};
+ghost use Rattle.records.specs.Text.{rowOf, partOf, cell, recordLengths, partLengths, lent};
+ghost use Rattle.records.specs.Refusals.{over, judgeWord, judgePart, judgeParts, judgeRecord, judgeRecords, judgeSignAt, judgeSigns, judgeLengths};
+ghost use Rattle.records.specs.Sweep.{eachVerdict};
 
-pub fn part_row(
-    pscalars: &[u32],
-    pbreaks: &[u8],
-    puses: &[u8],
-    pcategories: &[u8],
+pub fn part_row<'s, 'a>(
+    wides: &'s [&'a [u32]; 2],
+    bytes: &'s [&'a [u8]; 15],
+    firsts: &'a [u16],
     i: usize,
 ) -> PartRow
-    ensures { λ r. ⌜ r ≡ partOf (record { pscalars = now (pscalars .entry); pbreaks = now (pbreaks .entry); puses = now (puses .entry); pcategories = now (pcategories .entry) }) i ⌝ }
+    ensures { λ r. ⌜ r ≡ partOf (lent (wides .entry) (bytes .entry) (firsts .entry) .parts) i ⌝ }
 {
     PartRow {
-        scalar: cell32(pscalars, i),
-        brk: cell8(pbreaks, i),
-        uclass: cell8(puses, i),
-        category: cell8(pcategories, i),
+        scalar: wide(wides, 1, i),
+        brk: byte(bytes, 12, i),
+        uclass: byte(bytes, 13, i),
+        category: byte(bytes, 14, i),
     }
 }
 
-pub fn row(
-    scalars: &[u32],
-    breaks: &[u8],
-    uses: &[u8],
-    myanmars: &[u8],
-    categories: &[u8],
-    words: &[u8],
-    semojis: &[u8],
-    memojis: &[u8],
-    cemojis: &[u8],
-    pictographs: &[u8],
-    selectors: &[u8],
-    decomposes: &[u8],
-    firsts: &[u16],
-    counts: &[u8],
+pub fn row<'s, 'a>(
+    wides: &'s [&'a [u32]; 2],
+    bytes: &'s [&'a [u8]; 15],
+    firsts: &'a [u16],
     i: usize,
 ) -> Row
-    ensures { λ r. ⌜ r ≡ rowOf (record { scalars = now (scalars .entry); breaks = now (breaks .entry); uses = now (uses .entry); myanmars = now (myanmars .entry); categories = now (categories .entry); words = now (words .entry); semojis = now (semojis .entry); memojis = now (memojis .entry); cemojis = now (cemojis .entry); pictographs = now (pictographs .entry); selectors = now (selectors .entry); decomposes = now (decomposes .entry); firsts = now (firsts .entry); counts = now (counts .entry) }) i ⌝ }
+    ensures { λ r. ⌜ r ≡ rowOf (lent (wides .entry) (bytes .entry) (firsts .entry) .records) i ⌝ }
 {
     Row {
-        scalar: cell32(scalars, i),
-        brk: cell8(breaks, i),
-        uclass: cell8(uses, i),
-        mclass: cell8(myanmars, i),
-        category: cell8(categories, i),
-        word: cell8(words, i),
-        semoji: cell8(semojis, i),
-        memoji: cell8(memojis, i),
-        cemoji: cell8(cemojis, i),
-        pictograph: cell8(pictographs, i),
-        selector: cell8(selectors, i),
-        decompose: cell8(decomposes, i),
+        scalar: wide(wides, 0, i),
+        brk: byte(bytes, 0, i),
+        uclass: byte(bytes, 1, i),
+        mclass: byte(bytes, 2, i),
+        category: byte(bytes, 3, i),
+        word: byte(bytes, 4, i),
+        semoji: byte(bytes, 5, i),
+        memoji: byte(bytes, 6, i),
+        cemoji: byte(bytes, 7, i),
+        pictograph: byte(bytes, 8, i),
+        selector: byte(bytes, 9, i),
+        decompose: byte(bytes, 10, i),
         first: cell16(firsts, i),
-        count: cell8(counts, i),
+        count: byte(bytes, 11, i),
     }
 }
 
-pub fn judge_part_at(
+pub fn judge_part_at<'s, 'a>(
     parser: Parser,
-    pscalars: &[u32],
-    pbreaks: &[u8],
-    puses: &[u8],
-    pcategories: &[u8],
+    wides: &'s [&'a [u32]; 2],
+    bytes: &'s [&'a [u8]; 15],
+    firsts: &'a [u16],
     i: usize,
 ) -> Verdict
-    ensures { λ r. ⌜ r ≡ judgePart parser (partOf (record { pscalars = now (pscalars .entry); pbreaks = now (pbreaks .entry); puses = now (puses .entry); pcategories = now (pcategories .entry) }) i) i ⌝ }
+    ensures { λ r. ⌜ r ≡ judgePart parser (partOf (lent (wides .entry) (bytes .entry) (firsts .entry) .parts) i) i ⌝ }
 {
-    judge_part(
-        parser,
-        part_row(pscalars, pbreaks, puses, pcategories, i),
-        i,
-    )
+    judge_part(parser, part_row(wides, bytes, firsts, i), i)
 }
 
-pub fn judge_parts(
+pub fn judge_parts<'s, 'a>(
     parser: Parser,
-    pscalars: &[u32],
-    pbreaks: &[u8],
-    puses: &[u8],
-    pcategories: &[u8],
+    wides: &'s [&'a [u32]; 2],
+    bytes: &'s [&'a [u8]; 15],
+    firsts: &'a [u16],
 ) -> Verdict
-    ensures { λ r. ⌜ r ≡ judgeParts parser (record { pscalars = now (pscalars .entry); pbreaks = now (pbreaks .entry); puses = now (puses .entry); pcategories = now (pcategories .entry) }) ⌝ }
+    ensures { λ r. ⌜ r ≡ judgeParts parser (lent (wides .entry) (bytes .entry) (firsts .entry) .parts) ⌝ }
 {
+    let n = length32(wides[1]);
     let mut i: usize = 0;
-    while i < pscalars.len() {
-        let v = judge_part_at(parser, pscalars, pbreaks, puses, pcategories, i);
+    while i < n {
+        let v = judge_part_at(parser, wides, bytes, firsts, i);
         let Verdict::Accepted = v else {
             return v;
         };
@@ -107,92 +94,32 @@ pub fn judge_parts(
     Verdict::Accepted
 }
 
-pub fn judge_record_at(
+pub fn judge_record_at<'s, 'a>(
     parser: Parser,
-    scalars: &[u32],
-    breaks: &[u8],
-    uses: &[u8],
-    myanmars: &[u8],
-    categories: &[u8],
-    words: &[u8],
-    semojis: &[u8],
-    memojis: &[u8],
-    cemojis: &[u8],
-    pictographs: &[u8],
-    selectors: &[u8],
-    decomposes: &[u8],
-    firsts: &[u16],
-    counts: &[u8],
+    wides: &'s [&'a [u32]; 2],
+    bytes: &'s [&'a [u8]; 15],
+    firsts: &'a [u16],
     parts: usize,
     i: usize,
 ) -> Verdict
-    ensures { λ r. ⌜ r ≡ judgeRecord parser (rowOf (record { scalars = now (scalars .entry); breaks = now (breaks .entry); uses = now (uses .entry); myanmars = now (myanmars .entry); categories = now (categories .entry); words = now (words .entry); semojis = now (semojis .entry); memojis = now (memojis .entry); cemojis = now (cemojis .entry); pictographs = now (pictographs .entry); selectors = now (selectors .entry); decomposes = now (decomposes .entry); firsts = now (firsts .entry); counts = now (counts .entry) }) i) parts i ⌝ }
+    ensures { λ r. ⌜ r ≡ judgeRecord parser (rowOf (lent (wides .entry) (bytes .entry) (firsts .entry) .records) i) parts i ⌝ }
 {
-    judge_record(
-        parser,
-        row(
-            scalars,
-            breaks,
-            uses,
-            myanmars,
-            categories,
-            words,
-            semojis,
-            memojis,
-            cemojis,
-            pictographs,
-            selectors,
-            decomposes,
-            firsts,
-            counts,
-            i,
-        ),
-        parts,
-        i,
-    )
+    judge_record(parser, row(wides, bytes, firsts, i), parts, i)
 }
 
-pub fn judge_records(
+pub fn judge_records<'s, 'a>(
     parser: Parser,
-    scalars: &[u32],
-    breaks: &[u8],
-    uses: &[u8],
-    myanmars: &[u8],
-    categories: &[u8],
-    words: &[u8],
-    semojis: &[u8],
-    memojis: &[u8],
-    cemojis: &[u8],
-    pictographs: &[u8],
-    selectors: &[u8],
-    decomposes: &[u8],
-    firsts: &[u16],
-    counts: &[u8],
+    wides: &'s [&'a [u32]; 2],
+    bytes: &'s [&'a [u8]; 15],
+    firsts: &'a [u16],
     parts: usize,
 ) -> Verdict
-    ensures { λ r. ⌜ r ≡ judgeRecords parser (record { scalars = now (scalars .entry); breaks = now (breaks .entry); uses = now (uses .entry); myanmars = now (myanmars .entry); categories = now (categories .entry); words = now (words .entry); semojis = now (semojis .entry); memojis = now (memojis .entry); cemojis = now (cemojis .entry); pictographs = now (pictographs .entry); selectors = now (selectors .entry); decomposes = now (decomposes .entry); firsts = now (firsts .entry); counts = now (counts .entry) }) parts ⌝ }
+    ensures { λ r. ⌜ r ≡ judgeRecords parser (lent (wides .entry) (bytes .entry) (firsts .entry) .records) parts ⌝ }
 {
+    let n = length32(wides[0]);
     let mut i: usize = 0;
-    while i < scalars.len() {
-        let v = judge_record_at(
-            parser,
-            scalars,
-            breaks,
-            uses,
-            myanmars,
-            categories,
-            words,
-            semojis,
-            memojis,
-            cemojis,
-            pictographs,
-            selectors,
-            decomposes,
-            firsts,
-            counts,
-            parts,
-            i,
-        );
+    while i < n {
+        let v = judge_record_at(parser, wides, bytes, firsts, parts, i);
         let Verdict::Accepted = v else {
             return v;
         };
@@ -201,44 +128,109 @@ pub fn judge_records(
     Verdict::Accepted
 }
 
-pub fn judge_sign_at(
-    scalars: &[u32],
-    decomposes: &[u8],
-    firsts: &[u16],
-    counts: &[u8],
-    pscalars: &[u32],
+pub fn judge_sign_at<'s, 'a>(
+    wides: &'s [&'a [u32]; 2],
+    bytes: &'s [&'a [u8]; 15],
+    firsts: &'a [u16],
     i: usize,
 ) -> Verdict
-    ensures { λ r. ⌜ r ≡ judgeSign (cell (now (decomposes .entry)) i) (cell (now (scalars .entry)) i) (cell (now (counts .entry)) i) (cell (now (pscalars .entry)) (cell (now (firsts .entry)) i)) ⌝ }
+    ensures { λ r. ⌜ r ≡ judgeSignAt (lent (wides .entry) (bytes .entry) (firsts .entry)) i ⌝ }
 {
     let first = cell16(firsts, i) as usize;
     judge_sign(
-        cell8(decomposes, i),
-        cell32(scalars, i),
-        cell8(counts, i),
-        cell32(pscalars, first),
+        byte(bytes, 10, i),
+        wide(wides, 0, i),
+        byte(bytes, 11, i),
+        wide(wides, 1, first),
     )
 }
 
-// In Khmer alone.
-pub fn judge_signs(
-    scalars: &[u32],
-    decomposes: &[u8],
-    firsts: &[u16],
-    counts: &[u8],
-    pscalars: &[u32],
+fn judge_all_signs<'s, 'a>(
+    wides: &'s [&'a [u32]; 2],
+    bytes: &'s [&'a [u8]; 15],
+    firsts: &'a [u16],
 ) -> Verdict
-    ensures { λ r. ⌜ r ≡ over (λ i. judgeSign (cell (now (decomposes .entry)) i) (cell (now (scalars .entry)) i) (cell (now (counts .entry)) i) (cell (now (pscalars .entry)) (cell (now (firsts .entry)) i))) 0 (length (now (scalars .entry))) ⌝ }
+    ensures { λ r. ⌜ r ≡ over (judgeSignAt (lent (wides .entry) (bytes .entry) (firsts .entry))) 0 (length (lent (wides .entry) (bytes .entry) (firsts .entry) .records .scalars)) ⌝ }
 {
+    let n = length32(wides[0]);
     let mut i: usize = 0;
-    while i < scalars.len() {
-        let v = judge_sign_at(scalars, decomposes, firsts, counts, pscalars, i);
+    while i < n {
+        let v = judge_sign_at(wides, bytes, firsts, i);
         let Verdict::Accepted = v else {
             return v;
         };
         i += 1;
     }
     Verdict::Accepted
+}
+
+// 7: in Khmer alone.
+pub fn judge_signs<'s, 'a>(
+    parser: Parser,
+    wides: &'s [&'a [u32]; 2],
+    bytes: &'s [&'a [u8]; 15],
+    firsts: &'a [u16],
+) -> Verdict
+    ensures { λ r. ⌜ r ≡ judgeSigns parser (lent (wides .entry) (bytes .entry) (firsts .entry)) ⌝ }
+{
+    if is_khmer(parser) {
+        return judge_all_signs(wides, bytes, firsts);
+    }
+    Verdict::Accepted
+}
+
+// 3 to 7, part by part and record by record.
+pub fn judge_each<'s, 'a>(
+    parser: Parser,
+    wides: &'s [&'a [u32]; 2],
+    bytes: &'s [&'a [u8]; 15],
+    firsts: &'a [u16],
+) -> Verdict
+    ensures { λ r. ⌜ r ≡ eachVerdict parser (lent (wides .entry) (bytes .entry) (firsts .entry)) ⌝ }
+{
+    let by_part = judge_parts(parser, wides, bytes, firsts);
+    let Verdict::Accepted = by_part else {
+        return by_part;
+    };
+    let by_record = judge_records(parser, wides, bytes, firsts, length32(wides[1]));
+    let Verdict::Accepted = by_record else {
+        return by_record;
+    };
+    judge_signs(parser, wides, bytes, firsts)
+}
+
+// 1 and 2.
+pub fn judge_shape<'s, 'a>(
+    wides: &'s [&'a [u32]; 2],
+    bytes: &'s [&'a [u8]; 15],
+    firsts: &'a [u16],
+) -> Verdict
+    ensures { λ r. ⌜ r ≡ judgeLengths (recordLengths (lent (wides .entry) (bytes .entry) (firsts .entry) .records)) (partLengths (lent (wides .entry) (bytes .entry) (firsts .entry) .parts)) ⌝ }
+{
+    judge_lengths(
+        &[
+            wides[0].len(),
+            bytes[0].len(),
+            bytes[1].len(),
+            bytes[2].len(),
+            bytes[3].len(),
+            bytes[4].len(),
+            bytes[5].len(),
+            bytes[6].len(),
+            bytes[7].len(),
+            bytes[8].len(),
+            bytes[9].len(),
+            bytes[10].len(),
+            firsts.len(),
+            bytes[11].len(),
+        ],
+        &[
+            wides[1].len(),
+            bytes[12].len(),
+            bytes[13].len(),
+            bytes[14].len(),
+        ],
+    )
 }
 
 pub fn judge_word_at(words: &[u8], pictographs: &[u8], i: usize) -> Verdict

@@ -17,9 +17,11 @@ use records::cells::cell32;
 use records::cells::first8;
 use records::cells::first16;
 use records::cells::first32;
+use records::cells::record_count;
 use segment::RunAnswer;
 use segment::Segmenter;
 use segment::What;
+use segment::run_in;
 ghost use Prim.Native.Nat.{_≤_};
 
 // What a line asks for: a full run into so many cells, or stepping calls from a place on.
@@ -31,54 +33,20 @@ pub struct Ask {
 }
 
 // The stepping calls from the segmenter's place on. Each passes a token, so the turns are never used up.
-fn calls(
+fn calls<'s, 'a>(
     to: &mut Buffer,
     at: usize,
     s: Segmenter,
-    scalars: &[u32],
-    breaks: &[u8],
-    uses: &[u8],
-    myanmars: &[u8],
-    categories: &[u8],
-    words: &[u8],
-    semojis: &[u8],
-    memojis: &[u8],
-    cemojis: &[u8],
-    pictographs: &[u8],
-    selectors: &[u8],
-    decomposes: &[u8],
-    firsts: &[u16],
-    counts: &[u8],
-    pscalars: &[u32],
-    pbreaks: &[u8],
-    puses: &[u8],
-    pcategories: &[u8],
+    wides: &'s [&'a [u32]; 2],
+    bytes: &'s [&'a [u8]; 15],
+    firsts: &'a [u16],
 ) -> usize {
     let mut end = at;
     let mut state = s;
     let mut turns = u64::MAX;
     while turns > 0 {
         let from = state.place.at;
-        let answer = state.next(
-            scalars,
-            breaks,
-            uses,
-            myanmars,
-            categories,
-            words,
-            semojis,
-            memojis,
-            cemojis,
-            pictographs,
-            selectors,
-            decomposes,
-            firsts,
-            counts,
-            pscalars,
-            pbreaks,
-            puses,
-            pcategories,
-        );
+        let answer = state.next_in(wides, bytes, firsts);
         let after = answer.state;
         let cluster = answer.cluster;
         let what = answer.what;
@@ -93,59 +61,30 @@ fn calls(
     end
 }
 
-fn token_count(parser: Parser, scalars: &[u32], decomposes: &[u8], counts: &[u8]) -> usize {
+fn token_count<'s, 'a>(
+    parser: Parser,
+    wides: &'s [&'a [u32]; 2],
+    bytes: &'s [&'a [u8]; 15],
+    firsts: &'a [u16],
+) -> usize {
     match parser {
-        Parser::Simple => scalars.len(),
-        Parser::Myanmar => scalars.len(),
-        Parser::Complex => tokens::count(false, scalars, decomposes, counts),
-        Parser::Khmer => tokens::count(true, scalars, decomposes, counts),
+        Parser::Simple => record_count(wides, bytes, firsts),
+        Parser::Myanmar => record_count(wides, bytes, firsts),
+        Parser::Complex => tokens::count(false, wides, bytes, firsts),
+        Parser::Khmer => tokens::count(true, wides, bytes, firsts),
     }
 }
 
 // "TOKENS|call|call|…", or the refusal of the first call.
-fn steps(
+fn steps<'s, 'a>(
     to: &mut Buffer,
     at: usize,
     s: Segmenter,
-    scalars: &[u32],
-    breaks: &[u8],
-    uses: &[u8],
-    myanmars: &[u8],
-    categories: &[u8],
-    words: &[u8],
-    semojis: &[u8],
-    memojis: &[u8],
-    cemojis: &[u8],
-    pictographs: &[u8],
-    selectors: &[u8],
-    decomposes: &[u8],
-    firsts: &[u16],
-    counts: &[u8],
-    pscalars: &[u32],
-    pbreaks: &[u8],
-    puses: &[u8],
-    pcategories: &[u8],
+    wides: &'s [&'a [u32]; 2],
+    bytes: &'s [&'a [u8]; 15],
+    firsts: &'a [u16],
 ) -> usize {
-    let answer = s.next(
-        scalars,
-        breaks,
-        uses,
-        myanmars,
-        categories,
-        words,
-        semojis,
-        memojis,
-        cemojis,
-        pictographs,
-        selectors,
-        decomposes,
-        firsts,
-        counts,
-        pscalars,
-        pbreaks,
-        puses,
-        pcategories,
-    );
+    let answer = s.next_in(wides, bytes, firsts);
     let what = answer.what;
     if let What::Bad {
         number,
@@ -155,31 +94,9 @@ fn steps(
         return refusal(to, at, number, side, index);
     }
     let parser = s.parser;
-    let n = token_count(parser, scalars, decomposes, counts);
+    let n = token_count(parser, wides, bytes, firsts);
     let end = out::decimal(to, at, n as u64);
-    calls(
-        to,
-        end,
-        s,
-        scalars,
-        breaks,
-        uses,
-        myanmars,
-        categories,
-        words,
-        semojis,
-        memojis,
-        cemojis,
-        pictographs,
-        selectors,
-        decomposes,
-        firsts,
-        counts,
-        pscalars,
-        pbreaks,
-        puses,
-        pcategories,
-    )
+    calls(to, end, s, wides, bytes, firsts)
 }
 
 // "scalar.class.cluster" of the first n cells, one blank between.
@@ -224,28 +141,13 @@ fn ran(to: &mut Buffer, at: usize, answer: RunAnswer) -> usize {
 }
 
 // "CLUSTERS PUSHED|scalar.class.cluster …"
-fn run(
+fn run<'s, 'a>(
     to: &mut Buffer,
     at: usize,
     ask: Ask,
-    scalars: &[u32],
-    breaks: &[u8],
-    uses: &[u8],
-    myanmars: &[u8],
-    categories: &[u8],
-    words: &[u8],
-    semojis: &[u8],
-    memojis: &[u8],
-    cemojis: &[u8],
-    pictographs: &[u8],
-    selectors: &[u8],
-    decomposes: &[u8],
-    firsts: &[u16],
-    counts: &[u8],
-    pscalars: &[u32],
-    pbreaks: &[u8],
-    puses: &[u8],
-    pcategories: &[u8],
+    wides: &'s [&'a [u32]; 2],
+    bytes: &'s [&'a [u8]; 15],
+    firsts: &'a [u16],
 ) -> usize {
     let parser = ask.parser;
     let mode = ask.mode;
@@ -253,27 +155,12 @@ fn run(
     let mut oscalars = zeros::cells32();
     let mut oclasses = zeros::cells8();
     let mut oclusters = zeros::cells16();
-    let answer = segment::run(
+    let answer = run_in(
         parser,
         mode,
-        scalars,
-        breaks,
-        uses,
-        myanmars,
-        categories,
-        words,
-        semojis,
-        memojis,
-        cemojis,
-        pictographs,
-        selectors,
-        decomposes,
+        wides,
+        bytes,
         firsts,
-        counts,
-        pscalars,
-        pbreaks,
-        puses,
-        pcategories,
         &mut oscalars[..size],
         &mut oclasses[..size],
         &mut oclusters[..size],
@@ -283,53 +170,16 @@ fn run(
     written(to, end, n, &oscalars, &oclasses, &oclusters)
 }
 
-fn asked(
+fn asked<'s, 'a>(
     to: &mut Buffer,
     at: usize,
     ask: Ask,
-    scalars: &[u32],
-    breaks: &[u8],
-    uses: &[u8],
-    myanmars: &[u8],
-    categories: &[u8],
-    words: &[u8],
-    semojis: &[u8],
-    memojis: &[u8],
-    cemojis: &[u8],
-    pictographs: &[u8],
-    selectors: &[u8],
-    decomposes: &[u8],
-    firsts: &[u16],
-    counts: &[u8],
-    pscalars: &[u32],
-    pbreaks: &[u8],
-    puses: &[u8],
-    pcategories: &[u8],
+    wides: &'s [&'a [u32]; 2],
+    bytes: &'s [&'a [u8]; 15],
+    firsts: &'a [u16],
 ) -> usize {
     if ask.full {
-        return run(
-            to,
-            at,
-            ask,
-            scalars,
-            breaks,
-            uses,
-            myanmars,
-            categories,
-            words,
-            semojis,
-            memojis,
-            cemojis,
-            pictographs,
-            selectors,
-            decomposes,
-            firsts,
-            counts,
-            pscalars,
-            pbreaks,
-            puses,
-            pcategories,
-        );
+        return run(to, at, ask, wides, bytes, firsts);
     }
     let parser = ask.parser;
     let mode = ask.mode;
@@ -339,29 +189,7 @@ fn asked(
         mode,
         place,
     };
-    steps(
-        to,
-        at,
-        s,
-        scalars,
-        breaks,
-        uses,
-        myanmars,
-        categories,
-        words,
-        semojis,
-        memojis,
-        cemojis,
-        pictographs,
-        selectors,
-        decomposes,
-        firsts,
-        counts,
-        pscalars,
-        pbreaks,
-        puses,
-        pcategories,
-    )
+    steps(to, at, s, wides, bytes, firsts)
 }
 
 // No column of a case has more cells.
@@ -371,37 +199,34 @@ fn most(cells: usize) -> usize
     if cells < 65535 { cells } else { 65535 }
 }
 
-// The columns are as long as the text has items.
-fn cut(
+// The columns are as long as the text has items. They are packed here, where all have one lifetime.
+fn cut<'a>(
     to: &mut Buffer,
     at: usize,
     ask: Ask,
     records: usize,
     parts: usize,
-    scalars: &[u32; 4097],
-    breaks: &[u8; 4097],
-    uses: &[u8; 4097],
-    myanmars: &[u8; 4097],
-    categories: &[u8; 4097],
-    words: &[u8; 4097],
-    semojis: &[u8; 4097],
-    memojis: &[u8; 4097],
-    cemojis: &[u8; 4097],
-    pictographs: &[u8; 4097],
-    selectors: &[u8; 4097],
-    decomposes: &[u8; 4097],
-    firsts: &[u16; 4097],
-    counts: &[u8; 4097],
-    pscalars: &[u32; 4097],
-    pbreaks: &[u8; 4097],
-    puses: &[u8; 4097],
-    pcategories: &[u8; 4097],
+    scalars: &'a [u32; 4097],
+    breaks: &'a [u8; 4097],
+    uses: &'a [u8; 4097],
+    myanmars: &'a [u8; 4097],
+    categories: &'a [u8; 4097],
+    words: &'a [u8; 4097],
+    semojis: &'a [u8; 4097],
+    memojis: &'a [u8; 4097],
+    cemojis: &'a [u8; 4097],
+    pictographs: &'a [u8; 4097],
+    selectors: &'a [u8; 4097],
+    decomposes: &'a [u8; 4097],
+    firsts: &'a [u16; 4097],
+    counts: &'a [u8; 4097],
+    pscalars: &'a [u32; 4097],
+    pbreaks: &'a [u8; 4097],
+    puses: &'a [u8; 4097],
+    pcategories: &'a [u8; 4097],
 ) -> usize {
-    asked(
-        to,
-        at,
-        ask,
-        first32(scalars, records),
+    let wides = [first32(scalars, records), first32(pscalars, parts)];
+    let bytes = [
         first8(breaks, records),
         first8(uses, records),
         first8(myanmars, records),
@@ -413,13 +238,12 @@ fn cut(
         first8(pictographs, records),
         first8(selectors, records),
         first8(decomposes, records),
-        first16(firsts, records),
         first8(counts, records),
-        first32(pscalars, parts),
         first8(pbreaks, parts),
         first8(puses, parts),
         first8(pcategories, parts),
-    )
+    ];
+    asked(to, at, ask, &wides, &bytes, first16(firsts, records))
 }
 
 fn read8(section: &[u8], k: usize, n: usize) -> [u8; 4097] {
@@ -442,48 +266,30 @@ fn read32(section: &[u8], k: usize, n: usize) -> [u32; 4097] {
 
 pub(crate) fn text(to: &mut Buffer, at: usize, line: &[u8], ask: Ask, n: usize, m: usize) -> usize {
     let section = cases::part(line, b';', 4);
-    let scalars = read32(section, 0, n);
-    let breaks = read8(section, 1, n);
-    let uses = read8(section, 2, n);
-    let myanmars = read8(section, 3, n);
-    let categories = read8(section, 4, n);
-    let words = read8(section, 5, n);
-    let semojis = read8(section, 6, n);
-    let memojis = read8(section, 7, n);
-    let cemojis = read8(section, 8, n);
-    let pictographs = read8(section, 9, n);
-    let selectors = read8(section, 10, n);
-    let decomposes = read8(section, 11, n);
-    let firsts = read16(section, 12, n);
-    let counts = read8(section, 13, n);
     let second = cases::part(line, b';', 5);
-    let pscalars = read32(second, 0, m);
-    let pbreaks = read8(second, 1, m);
-    let puses = read8(second, 2, m);
-    let pcategories = read8(second, 3, m);
     cut(
         to,
         at,
         ask,
         n,
         m,
-        &scalars,
-        &breaks,
-        &uses,
-        &myanmars,
-        &categories,
-        &words,
-        &semojis,
-        &memojis,
-        &cemojis,
-        &pictographs,
-        &selectors,
-        &decomposes,
-        &firsts,
-        &counts,
-        &pscalars,
-        &pbreaks,
-        &puses,
-        &pcategories,
+        &read32(section, 0, n),
+        &read8(section, 1, n),
+        &read8(section, 2, n),
+        &read8(section, 3, n),
+        &read8(section, 4, n),
+        &read8(section, 5, n),
+        &read8(section, 6, n),
+        &read8(section, 7, n),
+        &read8(section, 8, n),
+        &read8(section, 9, n),
+        &read8(section, 10, n),
+        &read8(section, 11, n),
+        &read16(section, 12, n),
+        &read8(section, 13, n),
+        &read32(second, 0, m),
+        &read8(second, 1, m),
+        &read8(second, 2, m),
+        &read8(second, 3, m),
     )
 }

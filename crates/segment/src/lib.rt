@@ -1,7 +1,11 @@
 // The public face: a stepping call and a full run for each parser, with every refusal.
 mod calls;
+mod direct;
+mod going;
+mod regular;
 mod runs;
 mod streams;
+mod tabled;
 
 use classes::Mode;
 use parse::Cluster;
@@ -9,10 +13,10 @@ use parse::Place;
 use records::Parser;
 use records::Side;
 use records::Verdict;
-use records::check;
+use records::check_in;
 use runs::run_accepted;
 ghost use mathlib.Core.Path.{_≡_};
-ghost use Rattle.records.specs.Text.{textOf};
+ghost use Rattle.records.specs.Text.{textOf, lent};
 ghost use Rattle.parse.specs.State.{startPlace};
 ghost use Rattle.segment.specs.Calls.{nextOf};
 ghost use Rattle.segment.specs.Runs.{RanOf};
@@ -62,33 +66,53 @@ impl Segmenter {
     }
 
     // One call. The whole text is judged anew each time.
-    pub fn next(
+    pub fn next_in<'s, 'a>(
         self,
-        scalars: &[u32],
-        breaks: &[u8],
-        uses: &[u8],
-        myanmars: &[u8],
-        categories: &[u8],
-        words: &[u8],
-        semojis: &[u8],
-        memojis: &[u8],
-        cemojis: &[u8],
-        pictographs: &[u8],
-        selectors: &[u8],
-        decomposes: &[u8],
-        firsts: &[u16],
-        counts: &[u8],
-        pscalars: &[u32],
-        pbreaks: &[u8],
-        puses: &[u8],
-        pcategories: &[u8],
+        wides: &'s [&'a [u32]; 2],
+        bytes: &'s [&'a [u8]; 15],
+        firsts: &'a [u16],
+    ) -> Answer
+        ensures { λ r. ⌜ r ≡ nextOf self (lent (wides .entry) (bytes .entry) (firsts .entry)) ⌝ }
+    {
+        let parser = self.parser;
+        let verdict = check_in(parser, wides, bytes, firsts);
+        let Verdict::Refused {
+            number,
+            side,
+            index,
+        } = verdict
+        else {
+            return self.next_accepted(wides, bytes, firsts);
+        };
+        self.refusal(number, side, index)
+    }
+
+    // The same over the columns one by one.
+    pub fn next<'a>(
+        self,
+        scalars: &'a [u32],
+        breaks: &'a [u8],
+        uses: &'a [u8],
+        myanmars: &'a [u8],
+        categories: &'a [u8],
+        words: &'a [u8],
+        semojis: &'a [u8],
+        memojis: &'a [u8],
+        cemojis: &'a [u8],
+        pictographs: &'a [u8],
+        selectors: &'a [u8],
+        decomposes: &'a [u8],
+        firsts: &'a [u16],
+        counts: &'a [u8],
+        pscalars: &'a [u32],
+        pbreaks: &'a [u8],
+        puses: &'a [u8],
+        pcategories: &'a [u8],
     ) -> Answer
         ensures { λ r. ⌜ r ≡ nextOf self (textOf (now (scalars .entry)) (now (breaks .entry)) (now (uses .entry)) (now (myanmars .entry)) (now (categories .entry)) (now (words .entry)) (now (semojis .entry)) (now (memojis .entry)) (now (cemojis .entry)) (now (pictographs .entry)) (now (selectors .entry)) (now (decomposes .entry)) (now (firsts .entry)) (now (counts .entry)) (now (pscalars .entry)) (now (pbreaks .entry)) (now (puses .entry)) (now (pcategories .entry))) ⌝ }
     {
-        let parser = self.parser;
-        let verdict = check(
-            parser,
-            scalars,
+        let wides = [scalars, pscalars];
+        let bytes = [
             breaks,
             uses,
             myanmars,
@@ -100,75 +124,79 @@ impl Segmenter {
             pictographs,
             selectors,
             decomposes,
-            firsts,
             counts,
-            pscalars,
             pbreaks,
             puses,
             pcategories,
-        );
-        let Verdict::Refused {
-            number,
-            side,
-            index,
-        } = verdict
-        else {
-            return self.next_accepted(
-                scalars,
-                breaks,
-                uses,
-                myanmars,
-                categories,
-                words,
-                semojis,
-                memojis,
-                cemojis,
-                pictographs,
-                selectors,
-                decomposes,
-                firsts,
-                counts,
-                pscalars,
-                pbreaks,
-                puses,
-                pcategories,
-            );
-        };
-        self.refusal(number, side, index)
+        ];
+        self.next_in(&wides, &bytes, firsts)
     }
 }
 
 // A full run: each pushed character's scalar, shape class and cluster number, in the three columns lent last.
-pub fn run(
+pub fn run_in<'s, 'a>(
     parser: Parser,
     mode: Mode,
-    scalars: &[u32],
-    breaks: &[u8],
-    uses: &[u8],
-    myanmars: &[u8],
-    categories: &[u8],
-    words: &[u8],
-    semojis: &[u8],
-    memojis: &[u8],
-    cemojis: &[u8],
-    pictographs: &[u8],
-    selectors: &[u8],
-    decomposes: &[u8],
-    firsts: &[u16],
-    counts: &[u8],
-    pscalars: &[u32],
-    pbreaks: &[u8],
-    puses: &[u8],
-    pcategories: &[u8],
+    wides: &'s [&'a [u32]; 2],
+    bytes: &'s [&'a [u8]; 15],
+    firsts: &'a [u16],
+    oscalars: &mut [u32],
+    oclasses: &mut [u8],
+    oclusters: &mut [u16],
+) -> RunAnswer
+    ensures { λ r. ⌜ RanOf parser mode (lent (wides .entry) (bytes .entry) (firsts .entry)) (now (oscalars .entry)) (now (oclasses .entry)) (now (oclusters .entry)) r (now (oscalars .exit)) (now (oclasses .exit)) (now (oclusters .exit)) ⌝ }
+{
+    let verdict = check_in(parser, wides, bytes, firsts);
+    let Verdict::Refused {
+        number,
+        side,
+        index,
+    } = verdict
+    else {
+        return run_accepted(
+            parser,
+            mode,
+            wides,
+            bytes,
+            firsts,
+            oscalars,
+            oclasses,
+            oclusters,
+        );
+    };
+    RunAnswer::refused(number, side, index)
+}
+
+// The same over the columns one by one.
+pub fn run<'a>(
+    parser: Parser,
+    mode: Mode,
+    scalars: &'a [u32],
+    breaks: &'a [u8],
+    uses: &'a [u8],
+    myanmars: &'a [u8],
+    categories: &'a [u8],
+    words: &'a [u8],
+    semojis: &'a [u8],
+    memojis: &'a [u8],
+    cemojis: &'a [u8],
+    pictographs: &'a [u8],
+    selectors: &'a [u8],
+    decomposes: &'a [u8],
+    firsts: &'a [u16],
+    counts: &'a [u8],
+    pscalars: &'a [u32],
+    pbreaks: &'a [u8],
+    puses: &'a [u8],
+    pcategories: &'a [u8],
     oscalars: &mut [u32],
     oclasses: &mut [u8],
     oclusters: &mut [u16],
 ) -> RunAnswer
     ensures { λ r. ⌜ RanOf parser mode (textOf (now (scalars .entry)) (now (breaks .entry)) (now (uses .entry)) (now (myanmars .entry)) (now (categories .entry)) (now (words .entry)) (now (semojis .entry)) (now (memojis .entry)) (now (cemojis .entry)) (now (pictographs .entry)) (now (selectors .entry)) (now (decomposes .entry)) (now (firsts .entry)) (now (counts .entry)) (now (pscalars .entry)) (now (pbreaks .entry)) (now (puses .entry)) (now (pcategories .entry))) (now (oscalars .entry)) (now (oclasses .entry)) (now (oclusters .entry)) r (now (oscalars .exit)) (now (oclasses .exit)) (now (oclusters .exit)) ⌝ }
 {
-    let verdict = check(
-        parser,
-        scalars,
+    let wides = [scalars, pscalars];
+    let bytes = [
         breaks,
         uses,
         myanmars,
@@ -180,44 +208,19 @@ pub fn run(
         pictographs,
         selectors,
         decomposes,
-        firsts,
         counts,
-        pscalars,
         pbreaks,
         puses,
         pcategories,
-    );
-    let Verdict::Refused {
-        number,
-        side,
-        index,
-    } = verdict
-    else {
-        return run_accepted(
-            parser,
-            mode,
-            scalars,
-            breaks,
-            uses,
-            myanmars,
-            categories,
-            words,
-            semojis,
-            memojis,
-            cemojis,
-            pictographs,
-            selectors,
-            decomposes,
-            firsts,
-            counts,
-            pscalars,
-            pbreaks,
-            puses,
-            pcategories,
-            oscalars,
-            oclasses,
-            oclusters,
-        );
-    };
-    RunAnswer::refused(number, side, index)
+    ];
+    run_in(
+        parser,
+        mode,
+        &wides,
+        &bytes,
+        firsts,
+        oscalars,
+        oclasses,
+        oclusters,
+    )
 }

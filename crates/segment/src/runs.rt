@@ -1,25 +1,29 @@
-// A full run: every call's characters written to the lent columns.
+// A full run: the table over the columns, and what it leaves over an array of tokens, by the table again or by the calls.
 use crate::RunAnswer;
 use crate::calls::call;
+use crate::direct::direct;
+use crate::going::Stand;
+use crate::regular::is_direct;
+use crate::streams::MIDDLE;
 use crate::streams::SHORT;
 use crate::streams::count_of;
 use crate::streams::tokens_of;
+use crate::tabled::tabled;
 use classes::Mode;
 use parse::Parse;
 use records::Parser;
 use records::Side;
 use records::Verdict;
+use records::cells::record_count;
 ghost use mathlib.Core.Path.{_≡_};
-ghost use mathlib.Core.List.{map};
 ghost use Prim.Native.Nat.{_≤_, min};
 ghost use lib.ListN.{length};
-ghost use lib.Seq.{sets};
-ghost use Rattle.records.specs.Text.{textOf};
+ghost use Rattle.records.specs.Text.{lent};
+ghost use Rattle.records.specs.Sound.{Sound};
 ghost use Rattle.records.specs.declared.Verdict.the-variants.{Accepted, Refused};
 ghost use Rattle.tokens.specs.Tokens.{streamOf};
-ghost use Rattle.parse.specs.Cover.{pushed};
-ghost use Rattle.segment.specs.Calls.{Streamed};
-ghost use Rattle.segment.specs.Runs.{callsOf, scalarIn, classIn, clusterIn, Ran, RanOn, Fits, Roomy};
+ghost use Rattle.segment.specs.Runs.{Fits};
+ghost use Rattle.segment.specs.Standing.{Written, Known, RoomyIn, Begun, Stands, Finished, Rests, FinishedIn, RanIn};
 
 fn shorter(a: usize, b: usize) -> usize
     ensures { λ r. ⌜ r ≡ min a b ⌝ }
@@ -41,6 +45,16 @@ impl RunAnswer {
             characters: 0,
         }
     }
+
+    fn accepted(s: Stand) -> RunAnswer
+        ensures { λ r. ⌜ r ≡ record { verdict = Accepted; clusters = s .clusters; characters = s .characters } ⌝ }
+    {
+        RunAnswer {
+            verdict: Verdict::Accepted,
+            clusters: s.clusters,
+            characters: s.characters,
+        }
+    }
 }
 
 // The characters of the cluster of this number, written from a cell on.
@@ -53,7 +67,7 @@ fn write(
     oclusters: &mut [u16],
 )
     requires { ⌜ Fits p at (now oscalars) (now oclasses) (now oclusters) ⌝ }
-    ensures { λ _. ⌜ (now (oscalars .exit) ≡ sets (now (oscalars .entry)) at (map (scalarIn number) (pushed p))) × ((now (oclasses .exit) ≡ sets (now (oclasses .entry)) at (map (classIn number) (pushed p))) × (now (oclusters .exit) ≡ sets (now (oclusters .entry)) at (map (clusterIn number) (pushed p)))) ⌝ }
+    ensures { λ _. ⌜ Written p number at oscalars oclasses oclusters ⌝ }
 {
     let len = p.len;
     let chars = p.chars;
@@ -69,21 +83,22 @@ fn write(
     }
 }
 
-// Every call from the start to the end.
-fn write_all(
+// Every call from a stand to the end.
+fn finish(
     parser: Parser,
     mode: Mode,
     text: &[u64],
+    from: Stand,
     oscalars: &mut [u32],
     oclasses: &mut [u8],
     oclusters: &mut [u16],
 ) -> RunAnswer
-    requires { ⌜ Roomy (now text) (now oscalars) (now oclasses) (now oclusters) ⌝ }
-    ensures { λ r. ⌜ Ran Accepted (callsOf parser mode (now (text .entry))) (now (oscalars .entry)) (now (oclasses .entry)) (now (oclusters .entry)) r (now (oscalars .exit)) (now (oclasses .exit)) (now (oclusters .exit)) ⌝ }
+    requires { ⌜ Stands parser mode (now text) oscalars oclasses oclusters from ⌝ }
+    ensures { λ r. ⌜ Finished parser mode (now (text .entry)) from oscalars oclasses oclusters r ⌝ }
 {
-    let mut at: usize = 0;
-    let mut clusters: usize = 0;
-    let mut characters: usize = 0;
+    let mut at: usize = from.at;
+    let mut clusters: usize = from.clusters;
+    let mut characters: usize = from.characters;
     while at < text.len() {
         let p = call(parser, mode, text, at);
         write(
@@ -105,162 +120,181 @@ fn write_all(
     }
 }
 
-// A run over an accepted text's tokens.
-fn run_tokens(
+// What is left from a stand on, over the tokens that `out` has room for.
+fn run_within<'s, 'a>(
     parser: Parser,
     mode: Mode,
-    text: &[u64],
-    oscalars: &mut [u32],
-    oclasses: &mut [u8],
-    oclusters: &mut [u16],
-) -> RunAnswer
-    requires { ⌜ length (now text) ≤ 12288 ⌝ }
-    ensures { λ r. ⌜ RanOn parser mode (now (text .entry)) (now (oscalars .entry)) (now (oclasses .entry)) (now (oclusters .entry)) r (now (oscalars .exit)) (now (oclasses .exit)) (now (oclusters .exit)) ⌝ }
-{
-    let room = shorter(oscalars.len(), shorter(oclasses.len(), oclusters.len()));
-    if room < 2 * text.len() {
-        return RunAnswer::refused(9, Side::Neither, 0);
-    }
-    write_all(parser, mode, text, oscalars, oclasses, oclusters)
-}
-
-// A run on the tokens that `out` has room for.
-fn run_in(
-    parser: Parser,
-    mode: Mode,
-    scalars: &[u32],
-    breaks: &[u8],
-    uses: &[u8],
-    myanmars: &[u8],
-    categories: &[u8],
-    words: &[u8],
-    semojis: &[u8],
-    memojis: &[u8],
-    cemojis: &[u8],
-    pictographs: &[u8],
-    selectors: &[u8],
-    decomposes: &[u8],
-    firsts: &[u16],
-    counts: &[u8],
-    pscalars: &[u32],
-    pbreaks: &[u8],
-    puses: &[u8],
-    pcategories: &[u8],
+    from: Stand,
+    wides: &'s [&'a [u32]; 2],
+    bytes: &'s [&'a [u8]; 15],
+    firsts: &'a [u16],
     out: &mut [u64],
     oscalars: &mut [u32],
     oclasses: &mut [u8],
     oclusters: &mut [u16],
 ) -> RunAnswer
-    requires { ⌜ length (now out) ≤ 12288 ⌝ }
-    ensures { λ r. ⌜ (length (streamOf mode parser (textOf (now (scalars .entry)) (now (breaks .entry)) (now (uses .entry)) (now (myanmars .entry)) (now (categories .entry)) (now (words .entry)) (now (semojis .entry)) (now (memojis .entry)) (now (cemojis .entry)) (now (pictographs .entry)) (now (selectors .entry)) (now (decomposes .entry)) (now (firsts .entry)) (now (counts .entry)) (now (pscalars .entry)) (now (pbreaks .entry)) (now (puses .entry)) (now (pcategories .entry)))) ≤ length (now (out .entry)) → RanOn parser mode (streamOf mode parser (textOf (now (scalars .entry)) (now (breaks .entry)) (now (uses .entry)) (now (myanmars .entry)) (now (categories .entry)) (now (words .entry)) (now (semojis .entry)) (now (memojis .entry)) (now (cemojis .entry)) (now (pictographs .entry)) (now (selectors .entry)) (now (decomposes .entry)) (now (firsts .entry)) (now (counts .entry)) (now (pscalars .entry)) (now (pbreaks .entry)) (now (puses .entry)) (now (pcategories .entry)))) (now (oscalars .entry)) (now (oclasses .entry)) (now (oclusters .entry)) r (now (oscalars .exit)) (now (oclasses .exit)) (now (oclusters .exit))) ⌝ }
+    requires { ⌜ Rests parser mode (lent wides bytes firsts) (length (now out)) oscalars oclasses oclusters from ⌝ }
+    ensures { λ r. ⌜ FinishedIn parser mode (lent (wides .entry) (bytes .entry) (firsts .entry)) from oscalars oclasses oclusters r ⌝ }
 {
-    let n = tokens_of(
-        parser,
-        mode,
-        scalars,
-        breaks,
-        uses,
-        myanmars,
-        categories,
-        words,
-        semojis,
-        memojis,
-        cemojis,
-        pictographs,
-        selectors,
-        decomposes,
-        firsts,
-        counts,
-        pscalars,
-        pbreaks,
-        puses,
-        pcategories,
-        out,
-    );
-    run_tokens(parser, mode, &out[..n], oscalars, oclasses, oclusters)
+    let n = tokens_of(parser, mode, wides, bytes, firsts, out);
+    let text = &out[..n];
+    let s = tabled(parser, mode, text, from, oscalars, oclasses, oclusters);
+    finish(parser, mode, text, s, oscalars, oclasses, oclusters)
 }
 
-pub(crate) fn run_accepted(
+// The same over an array of its own, large enough for n tokens.
+fn run_array<'s, 'a>(
     parser: Parser,
     mode: Mode,
-    scalars: &[u32],
-    breaks: &[u8],
-    uses: &[u8],
-    myanmars: &[u8],
-    categories: &[u8],
-    words: &[u8],
-    semojis: &[u8],
-    memojis: &[u8],
-    cemojis: &[u8],
-    pictographs: &[u8],
-    selectors: &[u8],
-    decomposes: &[u8],
-    firsts: &[u16],
-    counts: &[u8],
-    pscalars: &[u32],
-    pbreaks: &[u8],
-    puses: &[u8],
-    pcategories: &[u8],
+    n: usize,
+    from: Stand,
+    wides: &'s [&'a [u32]; 2],
+    bytes: &'s [&'a [u8]; 15],
+    firsts: &'a [u16],
     oscalars: &mut [u32],
     oclasses: &mut [u8],
     oclusters: &mut [u16],
 ) -> RunAnswer
-    ensures { λ r. ⌜ (Streamed mode parser (textOf (now (scalars .entry)) (now (breaks .entry)) (now (uses .entry)) (now (myanmars .entry)) (now (categories .entry)) (now (words .entry)) (now (semojis .entry)) (now (memojis .entry)) (now (cemojis .entry)) (now (pictographs .entry)) (now (selectors .entry)) (now (decomposes .entry)) (now (firsts .entry)) (now (counts .entry)) (now (pscalars .entry)) (now (pbreaks .entry)) (now (puses .entry)) (now (pcategories .entry))) → RanOn parser mode (streamOf mode parser (textOf (now (scalars .entry)) (now (breaks .entry)) (now (uses .entry)) (now (myanmars .entry)) (now (categories .entry)) (now (words .entry)) (now (semojis .entry)) (now (memojis .entry)) (now (cemojis .entry)) (now (pictographs .entry)) (now (selectors .entry)) (now (decomposes .entry)) (now (firsts .entry)) (now (counts .entry)) (now (pscalars .entry)) (now (pbreaks .entry)) (now (puses .entry)) (now (pcategories .entry)))) (now (oscalars .entry)) (now (oclasses .entry)) (now (oclusters .entry)) r (now (oscalars .exit)) (now (oclasses .exit)) (now (oclusters .exit))) ⌝ }
+    requires { ⌜ (n ≤ 12288) × Rests parser mode (lent wides bytes firsts) n oscalars oclasses oclusters from ⌝ }
+    ensures { λ r. ⌜ FinishedIn parser mode (lent (wides .entry) (bytes .entry) (firsts .entry)) from oscalars oclasses oclusters r ⌝ }
 {
-    if count_of(parser, scalars, decomposes, counts) <= SHORT {
+    if n <= SHORT {
         let mut short = [0u64; 256];
-        return run_in(
+        return run_within(
             parser,
             mode,
-            scalars,
-            breaks,
-            uses,
-            myanmars,
-            categories,
-            words,
-            semojis,
-            memojis,
-            cemojis,
-            pictographs,
-            selectors,
-            decomposes,
+            from,
+            wides,
+            bytes,
             firsts,
-            counts,
-            pscalars,
-            pbreaks,
-            puses,
-            pcategories,
             &mut short,
             oscalars,
             oclasses,
             oclusters,
         );
     }
+    if n <= MIDDLE {
+        let mut middle = [0u64; 2048];
+        return run_within(
+            parser,
+            mode,
+            from,
+            wides,
+            bytes,
+            firsts,
+            &mut middle,
+            oscalars,
+            oclasses,
+            oclusters,
+        );
+    }
     let mut long = [0u64; 12288];
-    run_in(
+    run_within(
         parser,
         mode,
-        scalars,
-        breaks,
-        uses,
-        myanmars,
-        categories,
-        words,
-        semojis,
-        memojis,
-        cemojis,
-        pictographs,
-        selectors,
-        decomposes,
+        from,
+        wides,
+        bytes,
         firsts,
-        counts,
-        pscalars,
-        pbreaks,
-        puses,
-        pcategories,
         &mut long,
         oscalars,
         oclasses,
         oclusters,
     )
+}
+
+// How many tokens an accepted text has: as many as records where the records are the tokens.
+fn token_count<'s, 'a>(
+    records: bool,
+    parser: Parser,
+    mode: Mode,
+    wides: &'s [&'a [u32]; 2],
+    bytes: &'s [&'a [u8]; 15],
+    firsts: &'a [u16],
+) -> usize
+    requires { ⌜ Known records parser mode (lent wides bytes firsts) ⌝ }
+    ensures { λ r. ⌜ r ≡ length (streamOf mode parser (lent (wides .entry) (bytes .entry) (firsts .entry))) ⌝ }
+{
+    if records {
+        return record_count(wides, bytes, firsts);
+    }
+    count_of(parser, wides, bytes, firsts)
+}
+
+// The clusters that the table makes of the columns themselves, where it can.
+fn begin<'s, 'a>(
+    records: bool,
+    parser: Parser,
+    mode: Mode,
+    wides: &'s [&'a [u32]; 2],
+    bytes: &'s [&'a [u8]; 15],
+    firsts: &'a [u16],
+    oscalars: &mut [u32],
+    oclasses: &mut [u8],
+    oclusters: &mut [u16],
+) -> Stand
+    requires { ⌜ Known records parser mode (lent wides bytes firsts) × RoomyIn parser mode (lent wides bytes firsts) oscalars oclasses oclusters ⌝ }
+    ensures { λ r. ⌜ Begun parser mode (lent (wides .entry) (bytes .entry) (firsts .entry)) oscalars oclasses oclusters r ⌝ }
+{
+    if records {
+        return direct(
+            parser,
+            mode,
+            wides,
+            bytes,
+            firsts,
+            oscalars,
+            oclasses,
+            oclusters,
+        );
+    }
+    Stand::START
+}
+
+// A run over an accepted text.
+pub(crate) fn run_accepted<'s, 'a>(
+    parser: Parser,
+    mode: Mode,
+    wides: &'s [&'a [u32]; 2],
+    bytes: &'s [&'a [u8]; 15],
+    firsts: &'a [u16],
+    oscalars: &mut [u32],
+    oclasses: &mut [u8],
+    oclusters: &mut [u16],
+) -> RunAnswer
+    requires { ⌜ Sound parser (lent wides bytes firsts) ⌝ }
+    ensures { λ r. ⌜ RanIn parser mode (lent (wides .entry) (bytes .entry) (firsts .entry)) oscalars oclasses oclusters r ⌝ }
+{
+    let records = is_direct(parser, mode, wides, bytes, firsts);
+    let n = token_count(records, parser, mode, wides, bytes, firsts);
+    let room = shorter(oscalars.len(), shorter(oclasses.len(), oclusters.len()));
+    if room < 2 * n {
+        return RunAnswer::refused(9, Side::Neither, 0);
+    }
+    let s = begin(
+        records,
+        parser,
+        mode,
+        wides,
+        bytes,
+        firsts,
+        oscalars,
+        oclasses,
+        oclusters,
+    );
+    if s.at < n {
+        return run_array(
+            parser,
+            mode,
+            n,
+            s,
+            wides,
+            bytes,
+            firsts,
+            oscalars,
+            oclasses,
+            oclusters,
+        );
+    }
+    RunAnswer::accepted(s)
 }

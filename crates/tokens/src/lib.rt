@@ -1,184 +1,89 @@
 // The token stream: `Tokens` of src/text/cluster/complex.rs, over the lent columns. For simple and Myanmar a token is a record.
 mod pieces;
 
+use pieces::gives_none;
+pub use pieces::is_split_sign;
+use pieces::is_whole;
 use pieces::own_token;
 use pieces::piece;
 use pieces::pieces_at;
 use records::MOST;
+use records::cells::byte;
 use records::cells::cell8;
+use records::cells::record_count;
 ghost use mathlib.Core.Path.{_≡_};
 ghost use Prim.Native.Nat.{_-_, min};
-ghost use lib.ListN.{length, take, drop};
-ghost use Rattle.records.specs.Refusals.{most};
-ghost use Rattle.tokens.specs.Tokens.{itself, split, gather, fetchIn, countFrom};
+ghost use Rattle.records.specs.Text.{column, lent};
+ghost use Rattle.tokens.specs.Tokens.{recordTokens, splitTokens, Fills, fetchIn, countIn};
 
-// What a fetch finds: a token, its record, and the number of the record's next token; or the end of the records.
-pub enum Fetched {
-    Got {
-        token: u64,
-        record: usize,
-        next: usize,
-    },
-    Over,
-}
-
-// The tokens of the simple or the Myanmar parser, as many as there is room for: each record is one. Cells past
-// them keep their content.
-pub fn fill(
-    scalars: &[u32],
-    kinds: &[u8],
-    breaks: &[u8],
-    categories: &[u8],
-    emojis: &[u8],
-    selectors: &[u8],
+// The tokens of the simple or the Myanmar parser, with these classes and emoji marks, as many as there is room for: each record is
+// one. Cells past them keep their content.
+pub fn fill<'s, 'a>(
+    wides: &'s [&'a [u32]; 2],
+    bytes: &'s [&'a [u8]; 15],
+    firsts: &'a [u16],
+    kinds: &'a [u8],
+    emojis: &'a [u8],
     out: &mut [u64],
 ) -> usize
-    ensures { λ r. ⌜ ((r ≡ min (length (now (scalars .entry))) (length (now (out .entry)))) × (take r (now (out .exit)) ≡ take r (gather (itself (record { scalars = now (scalars .entry); kinds = now (kinds .entry); breaks = now (breaks .entry); categories = now (categories .entry); emojis = now (emojis .entry); selectors = now (selectors .entry) })) 0 (length (now (scalars .entry)))))) × (drop r (now (out .exit)) ≡ drop r (now (out .entry))) ⌝ }
+    ensures { λ r. ⌜ Fills (recordTokens (lent (wides .entry) (bytes .entry) (firsts .entry)) (now (kinds .entry)) (now (emojis .entry))) r (now (out .entry)) (now (out .exit)) ⌝ }
 {
+    let n = record_count(wides, bytes, firsts);
     let mut i: usize = 0;
-    while i < scalars.len() {
+    while i < n {
         if out.len() <= i {
             return i;
         }
-        out[i] = own_token(
-            scalars,
-            kinds,
-            breaks,
-            categories,
-            selectors,
-            cell8(emojis, i),
-            i,
-        );
+        out[i] = own_token(wides, bytes, firsts, kinds, cell8(emojis, i), i);
         i += 1;
     }
     i
 }
 
-// Token k of record i, or the first one after it; a record that gives none is passed over.
-pub fn fetch(
-    khmer: bool,
-    scalars: &[u32],
-    kinds: &[u8],
-    breaks: &[u8],
-    categories: &[u8],
-    emojis: &[u8],
-    selectors: &[u8],
-    decomposes: &[u8],
-    firsts: &[u16],
-    counts: &[u8],
-    pscalars: &[u32],
-    pbreaks: &[u8],
-    puses: &[u8],
-    pcategories: &[u8],
-    i: usize,
-    k: usize,
-) -> Fetched
-    ensures { λ r. ⌜ r ≡ fetchIn (length (now (scalars .entry)) - i) (split khmer (record { scalars = now (scalars .entry); kinds = now (kinds .entry); breaks = now (breaks .entry); categories = now (categories .entry); emojis = now (emojis .entry); selectors = now (selectors .entry) }) (record { decomposes = now (decomposes .entry); firsts = now (firsts .entry); counts = now (counts .entry) }) (record { pscalars = now (pscalars .entry); pbreaks = now (pbreaks .entry); puses = now (puses .entry); pcategories = now (pcategories .entry) })) i k ⌝ }
+// The first of n records, from record i on, that gives a token: "a marked record with no parts is passed over in the stream". It calls
+// itself for the next record, as the last thing that it does and with thin references alone, so that the compiler makes a loop of it.
+fn fetch<'s, 'a>(n: usize, bytes: &'s [&'a [u8]; 15], i: usize) -> usize
+    ensures { λ r. ⌜ r ≡ fetchIn (n - i) (column (now (bytes .entry)) 10) (column (now (bytes .entry)) 11) i ⌝ }
 {
-    if i < scalars.len() {
-        let n = pieces_at(khmer, scalars, decomposes, counts, i);
-        if k < n {
-            let token = piece(
-                khmer,
-                scalars,
-                kinds,
-                breaks,
-                categories,
-                emojis,
-                selectors,
-                decomposes,
-                firsts,
-                counts,
-                pscalars,
-                pbreaks,
-                puses,
-                pcategories,
-                i,
-                k,
-            );
-            return Fetched::Got {
-                token,
-                record: i,
-                next: k + 1,
-            };
+    if i < n {
+        if gives_none(byte(bytes, 10, i), byte(bytes, 11, i)) {
+            return fetch(n, bytes, i + 1);
         }
-        return fetch(
-            khmer,
-            scalars,
-            kinds,
-            breaks,
-            categories,
-            emojis,
-            selectors,
-            decomposes,
-            firsts,
-            counts,
-            pscalars,
-            pbreaks,
-            puses,
-            pcategories,
-            i + 1,
-            0,
-        );
+        return i;
     }
-    Fetched::Over
+    i
 }
 
-// The tokens of the complex parser, as many as there is room for.
-pub fn collect(
+// The tokens of the complex parser, as many as there is room for. Most records are one token, which is looked at first.
+pub fn collect<'s, 'a>(
     khmer: bool,
-    scalars: &[u32],
-    kinds: &[u8],
-    breaks: &[u8],
-    categories: &[u8],
-    emojis: &[u8],
-    selectors: &[u8],
-    decomposes: &[u8],
-    firsts: &[u16],
-    counts: &[u8],
-    pscalars: &[u32],
-    pbreaks: &[u8],
-    puses: &[u8],
-    pcategories: &[u8],
+    wides: &'s [&'a [u32]; 2],
+    bytes: &'s [&'a [u8]; 15],
+    firsts: &'a [u16],
     out: &mut [u64],
 ) -> usize
-    ensures { λ r. ⌜ ((r ≡ min (length (gather (split khmer (record { scalars = now (scalars .entry); kinds = now (kinds .entry); breaks = now (breaks .entry); categories = now (categories .entry); emojis = now (emojis .entry); selectors = now (selectors .entry) }) (record { decomposes = now (decomposes .entry); firsts = now (firsts .entry); counts = now (counts .entry) }) (record { pscalars = now (pscalars .entry); pbreaks = now (pbreaks .entry); puses = now (puses .entry); pcategories = now (pcategories .entry) })) 0 (length (now (scalars .entry))))) (length (now (out .entry)))) × (take r (now (out .exit)) ≡ take r (gather (split khmer (record { scalars = now (scalars .entry); kinds = now (kinds .entry); breaks = now (breaks .entry); categories = now (categories .entry); emojis = now (emojis .entry); selectors = now (selectors .entry) }) (record { decomposes = now (decomposes .entry); firsts = now (firsts .entry); counts = now (counts .entry) }) (record { pscalars = now (pscalars .entry); pbreaks = now (pbreaks .entry); puses = now (puses .entry); pcategories = now (pcategories .entry) })) 0 (length (now (scalars .entry)))))) × (drop r (now (out .exit)) ≡ drop r (now (out .entry))) ⌝ }
+    ensures { λ r. ⌜ Fills (splitTokens khmer (lent (wides .entry) (bytes .entry) (firsts .entry))) r (now (out .entry)) (now (out .exit)) ⌝ }
 {
+    let n = record_count(wides, bytes, firsts);
     let mut filled: usize = 0;
-    let mut i: usize = 0;
+    let mut i = fetch(n, bytes, 0);
     let mut k: usize = 0;
-    while filled < out.len() {
-        let f = fetch(
-            khmer,
-            scalars,
-            kinds,
-            breaks,
-            categories,
-            emojis,
-            selectors,
-            decomposes,
-            firsts,
-            counts,
-            pscalars,
-            pbreaks,
-            puses,
-            pcategories,
-            i,
-            k,
-        );
-        match f {
-            Fetched::Got {
-                token,
-                record,
-                next,
-            } => {
-                out[filled] = token;
-                filled += 1;
-                i = record;
-                k = next;
-            }
-            Fetched::Over => {
-                return filled;
+    while i < n {
+        if out.len() <= filled {
+            return filled;
+        }
+        if is_whole(khmer, wides, bytes, firsts, i) {
+            out[filled] = own_token(wides, bytes, firsts, bytes[1], byte(bytes, 7, i), i);
+            filled += 1;
+            i = fetch(n, bytes, i + 1);
+        } else {
+            let pieces = pieces_at(khmer, wides, bytes, firsts, i);
+            out[filled] = piece(khmer, wides, bytes, firsts, i, k);
+            filled += 1;
+            k += 1;
+            if pieces <= k {
+                i = fetch(n, bytes, i + 1);
+                k = 0;
             }
         }
     }
@@ -186,14 +91,19 @@ pub fn collect(
 }
 
 // How many tokens the first 4,096 records give to the complex parser: no accepted text has more.
-pub fn count(khmer: bool, scalars: &[u32], decomposes: &[u8], counts: &[u8]) -> usize
-    ensures { λ r. ⌜ r ≡ countFrom khmer (now (scalars .entry)) (now (decomposes .entry)) (now (counts .entry)) 0 (min (length (now (scalars .entry))) most) ⌝ }
+pub fn count<'s, 'a>(
+    khmer: bool,
+    wides: &'s [&'a [u32]; 2],
+    bytes: &'s [&'a [u8]; 15],
+    firsts: &'a [u16],
+) -> usize
+    ensures { λ r. ⌜ r ≡ countIn khmer (lent (wides .entry) (bytes .entry) (firsts .entry)) ⌝ }
 {
-    let n = at_most(scalars.len(), MOST);
+    let n = at_most(record_count(wides, bytes, firsts), MOST);
     let mut sum: usize = 0;
     let mut i: usize = 0;
     while i < n {
-        sum += pieces_at(khmer, scalars, decomposes, counts, i);
+        sum += pieces_at(khmer, wides, bytes, firsts, i);
         i += 1;
     }
     sum

@@ -1,19 +1,20 @@
 // The tokens of one record.
+use records::cells::byte;
 use records::cells::cell8;
 use records::cells::cell16;
-use records::cells::cell32;
+use records::cells::wide;
 use records::is_sign;
 ghost use mathlib.Core.Path.{_≡_};
-ghost use mathlib.Core.Bool.{_&&_};
+ghost use mathlib.Core.Bool.{true, _&&_};
 ghost use mathlib.Core.List.{[]};
 ghost use Prim.Native.Nat.{_<_};
-ghost use lib.ListN.{length, getD};
 ghost use Rattle.classes.specs.Scalar.{khmerSigns};
-ghost use Rattle.records.specs.Text.{cell};
+ghost use Rattle.records.specs.Text.{lent};
 ghost use Rattle.records.specs.Refusals.{member};
-ghost use Rattle.tokens.specs.Tokens.{ownToken, partToken, split, pieceCount};
+ghost use Rattle.tokens.specs.Tokens.{sourceOf, ownToken, partToken, pieceCount, piecesIn, givesNone, Whole, Piece};
 
-fn is_split_sign(khmer: bool, x: u32) -> bool
+// Whether a scalar is one of the five signs that Khmer splits.
+pub fn is_split_sign(khmer: bool, x: u32) -> bool
     ensures { λ r. ⌜ r ≡ (khmer && member khmerSigns x) ⌝ }
 {
     if khmer {
@@ -36,56 +37,89 @@ fn piece_count(khmer: bool, decompose: u8, x: u32, count: u8) -> usize
 }
 
 // The same by record i's place in the columns.
-pub fn pieces_at(khmer: bool, scalars: &[u32], decomposes: &[u8], counts: &[u8], i: usize) -> usize
-    ensures { λ r. ⌜ (r ≡ pieceCount khmer (cell (now (decomposes .entry)) i) (cell (now (scalars .entry)) i) (cell (now (counts .entry)) i)) × (r < 256) ⌝ }
+pub(crate) fn pieces_at<'s, 'a>(
+    khmer: bool,
+    wides: &'s [&'a [u32]; 2],
+    bytes: &'s [&'a [u8]; 15],
+    firsts: &'a [u16],
+    i: usize,
+) -> usize
+    ensures { λ r. ⌜ (r ≡ piecesIn khmer (lent (wides .entry) (bytes .entry) (firsts .entry)) i) × (r < 256) ⌝ }
 {
     piece_count(
         khmer,
-        cell8(decomposes, i),
-        cell32(scalars, i),
-        cell8(counts, i),
+        byte(bytes, 10, i),
+        wide(wides, 0, i),
+        byte(bytes, 11, i),
     )
 }
 
-// Record i as a token, with this emoji mark.
-pub fn own_token(
-    scalars: &[u32],
-    kinds: &[u8],
-    breaks: &[u8],
-    categories: &[u8],
-    selectors: &[u8],
+// Whether record i gives one token, itself.
+pub(crate) fn is_whole<'s, 'a>(
+    khmer: bool,
+    wides: &'s [&'a [u32]; 2],
+    bytes: &'s [&'a [u8]; 15],
+    firsts: &'a [u16],
+    i: usize,
+) -> bool
+    ensures { λ r. ⌜ (r ≡ true → Whole khmer (lent (wides .entry) (bytes .entry) (firsts .entry)) i) ⌝ }
+{
+    if byte(bytes, 10, i) == 1 {
+        return false;
+    }
+    if is_split_sign(khmer, wide(wides, 0, i)) {
+        return false;
+    }
+    true
+}
+
+// Whether a record gives no token, by its cells.
+pub(crate) fn gives_none(decompose: u8, count: u8) -> bool
+    ensures { λ r. ⌜ r ≡ givesNone decompose count ⌝ }
+{
+    if decompose == 1 {
+        return count == 0;
+    }
+    false
+}
+
+// Record i as a token, with the classes of this column and this emoji mark.
+pub(crate) fn own_token<'s, 'a>(
+    wides: &'s [&'a [u32]; 2],
+    bytes: &'s [&'a [u8]; 15],
+    firsts: &'a [u16],
+    kinds: &'a [u8],
     emoji: u8,
     i: usize,
 ) -> u64
-    ensures { λ r. ⌜ r ≡ ownToken (record { scalars = now (scalars .entry); kinds = now (kinds .entry); breaks = now (breaks .entry); categories = now (categories .entry); emojis = []; selectors = now (selectors .entry) }) emoji i ⌝ }
+    ensures { λ r. ⌜ r ≡ ownToken (sourceOf (lent (wides .entry) (bytes .entry) (firsts .entry) .records) (now (kinds .entry)) []) emoji i ⌝ }
 {
     token::pack(
-        cell32(scalars, i),
+        wide(wides, 0, i),
         cell8(kinds, i),
-        cell8(breaks, i),
-        cell8(categories, i),
+        byte(bytes, 0, i),
+        byte(bytes, 3, i),
         emoji,
-        cell8(selectors, i),
+        byte(bytes, 9, i),
         (i % 4096) as u16,
     )
 }
 
 // Part j as a token of record i.
-fn part_token(
-    pscalars: &[u32],
-    pbreaks: &[u8],
-    puses: &[u8],
-    pcategories: &[u8],
+fn part_token<'s, 'a>(
+    wides: &'s [&'a [u32]; 2],
+    bytes: &'s [&'a [u8]; 15],
+    firsts: &'a [u16],
     j: usize,
     i: usize,
 ) -> u64
-    ensures { λ r. ⌜ r ≡ partToken (record { pscalars = now (pscalars .entry); pbreaks = now (pbreaks .entry); puses = now (puses .entry); pcategories = now (pcategories .entry) }) j i ⌝ }
+    ensures { λ r. ⌜ r ≡ partToken (lent (wides .entry) (bytes .entry) (firsts .entry) .parts) j i ⌝ }
 {
     token::pack(
-        cell32(pscalars, j),
-        cell8(puses, j),
-        cell8(pbreaks, j),
-        cell8(pcategories, j),
+        wide(wides, 1, j),
+        byte(bytes, 13, j),
+        byte(bytes, 12, j),
+        byte(bytes, 14, j),
         0,
         0,
         (i % 4096) as u16,
@@ -93,44 +127,26 @@ fn part_token(
 }
 
 // Token k of those that record i gives to the complex parser.
-pub fn piece(
+pub(crate) fn piece<'s, 'a>(
     khmer: bool,
-    scalars: &[u32],
-    kinds: &[u8],
-    breaks: &[u8],
-    categories: &[u8],
-    emojis: &[u8],
-    selectors: &[u8],
-    decomposes: &[u8],
-    firsts: &[u16],
-    counts: &[u8],
-    pscalars: &[u32],
-    pbreaks: &[u8],
-    puses: &[u8],
-    pcategories: &[u8],
+    wides: &'s [&'a [u32]; 2],
+    bytes: &'s [&'a [u8]; 15],
+    firsts: &'a [u16],
     i: usize,
     k: usize,
 ) -> u64
     requires { ⌜ k < 256 ⌝ }
-    ensures { λ r. ⌜ (k < length (split khmer (record { scalars = now (scalars .entry); kinds = now (kinds .entry); breaks = now (breaks .entry); categories = now (categories .entry); emojis = now (emojis .entry); selectors = now (selectors .entry) }) (record { decomposes = now (decomposes .entry); firsts = now (firsts .entry); counts = now (counts .entry) }) (record { pscalars = now (pscalars .entry); pbreaks = now (pbreaks .entry); puses = now (puses .entry); pcategories = now (pcategories .entry) }) i) → r ≡ getD (split khmer (record { scalars = now (scalars .entry); kinds = now (kinds .entry); breaks = now (breaks .entry); categories = now (categories .entry); emojis = now (emojis .entry); selectors = now (selectors .entry) }) (record { decomposes = now (decomposes .entry); firsts = now (firsts .entry); counts = now (counts .entry) }) (record { pscalars = now (pscalars .entry); pbreaks = now (pbreaks .entry); puses = now (puses .entry); pcategories = now (pcategories .entry) }) i) k 0) ⌝ }
+    ensures { λ r. ⌜ Piece khmer (lent (wides .entry) (bytes .entry) (firsts .entry)) i k r ⌝ }
 {
     let first = cell16(firsts, i) as usize;
-    if cell8(decomposes, i) == 1 {
-        return part_token(pscalars, pbreaks, puses, pcategories, first + k, i);
+    if byte(bytes, 10, i) == 1 {
+        return part_token(wides, bytes, firsts, first + k, i);
     }
-    if is_split_sign(khmer, cell32(scalars, i)) {
+    if is_split_sign(khmer, wide(wides, 0, i)) {
         if k == 0 {
-            return part_token(pscalars, pbreaks, puses, pcategories, first, i);
+            return part_token(wides, bytes, firsts, first, i);
         }
-        return own_token(scalars, kinds, breaks, categories, selectors, 0, i);
+        return own_token(wides, bytes, firsts, bytes[1], 0, i);
     }
-    own_token(
-        scalars,
-        kinds,
-        breaks,
-        categories,
-        selectors,
-        cell8(emojis, i),
-        i,
-    )
+    own_token(wides, bytes, firsts, bytes[1], byte(bytes, 7, i), i)
 }

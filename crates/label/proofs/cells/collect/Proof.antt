@@ -3,10 +3,10 @@ use Rattle.label.proofs.cells.collect.Statement.{statement}
 use Rattle.label.proofs.cells.collect.Tie as tie
 
 abbrev Inv-loop : tie.InvT-loop
-Inv-loop scalars breaks myanmars categories emojis selectors rests zeros firsts oscalars₀ shapes₀ begins₀ brokens₀ repeats₀ noteds₀ seen₀ state₀ turns₀ oscalars shapes begins brokens repeats noteds seen state turns = Unit {0}
+Inv-loop wides bytes firsts oscalars₀ shapes₀ begins₀ brokens₀ repeats₀ noteds₀ seen₀ state₀ turns₀ oscalars shapes begins brokens repeats noteds seen state turns = Unit {0}
 
 abbrev μ-loop : tie.MeasureT-loop
-μ-loop scalars breaks myanmars categories emojis selectors rests zeros firsts oscalars₀ shapes₀ begins₀ brokens₀ repeats₀ noteds₀ seen₀ state₀ turns₀ oscalars shapes begins brokens repeats noteds seen state turns = turns
+μ-loop wides bytes firsts oscalars₀ shapes₀ begins₀ brokens₀ repeats₀ noteds₀ seen₀ state₀ turns₀ oscalars shapes begins brokens repeats noteds seen state turns = turns
 
 start-requires : tie.Need-start-requires Inv-loop μ-loop
 start-requires c κs = search needs
@@ -14,8 +14,8 @@ start-requires c κs = search needs
 loop-holds : tie.Need-loop-holds Inv-loop μ-loop
 loop-holds c = search needs
 
-next-requires : tie.Need-next-requires Inv-loop μ-loop
-next-requires c κs = search needs
+next-in-requires : tie.Need-next-in-requires Inv-loop μ-loop
+next-in-requires c κs = search needs
 
 enum-told : tie.Need-enum-told Inv-loop μ-loop
 enum-told c = search needs
@@ -58,7 +58,7 @@ collect-spec =
     μ-loop
     start-requires
     loop-holds
-    next-requires
+    next-in-requires
     enum-told
     put-cluster-requires
     sub-turns

@@ -1,5 +1,5 @@
 -- `Reader::advance` meets its contract: a walk of its MIR. The borrow of the reader is opened, the reader is taken apart as in `next`, and the
--- state that `step` answers is stored before the borrow is closed.
+-- state that the stepping call answers is stored before the borrow is closed.
 use mathlib.Core.Path.{_≡_, refl, ap}
 use Prim.Native.Nat.{ℕ}
 use mathlib.Core.List.{List, [], _∷_}
@@ -46,10 +46,10 @@ use Rattle.reader.proofs.Called.{Callee, tokens, asks, gave}
 use Rattle.reader.proofs.Held.{state, columns, D, L, R, args, cells, flats, mach, Own, Fields, twice, opened, typed, fields-are, put}
 use Rattle.reader.proofs.Stands.{framed, stands}
 use Rattle.reader.proofs.Walk.{Answers, stepped}
-use Rattle.reader.proofs.step as step
-use Rattle.reader.proofs.step.Symbol as step-def
-use Rattle.reader.proofs.step.Symbol.{name as #step}
-use Rattle.reader.proofs.step.Met as step-thm
+use Rattle.segment.proofs.Segmenter.next as step
+use Rattle.segment.proofs.Segmenter.next.Symbol as step-def
+use Rattle.segment.proofs.Segmenter.next.Symbol.{name as #step}
+use Rattle.segment.proofs.Segmenter.next.Met as step-thm
 use Rattle.reader.proofs.Reader.advance.Key.{name as #advance}
 use Rattle.reader.proofs.Reader.advance as advance
 use Rattle.reader.proofs.Reader.advance.Statement as stated
@@ -89,7 +89,7 @@ module _ {M : Type 1} (𝓤 : URA M) (H : Heap 𝓤) (A : Atoms 𝓤) (W : Given
   abbrev Post : Val → SProp 𝓤
   Post = walkOf 𝓤 H A advance.ended stayed (advance.clauses 𝓤 H A at-mem run) .post (((κ, (κ′, tt)), (q, (q′, tt)), bounds, x, at), tt)
 
-  -- `step`, called on the reader's fields
+  -- the stepping call on the reader's fields
   abbrev Step : Contract 𝓤
   Step = Callee 𝓤 H A step.ended (step.clauses 𝓤 H A at-mem run)
 
@@ -172,4 +172,4 @@ advance-spec 𝓤 H 𝓜 𝓖 𝓡 =
     stands 𝓤 H 𝓜 𝓖 𝓡 code.env #advance code.function (code.unfolded 𝓤 H 𝓜 𝓡) advance.ended stayed (advance.clauses 𝓤 H (𝓖 .A) (𝓜 .mem) (𝓡 .run))
     (goes-ref 𝓤 H (𝓖 .A) (givenOf 𝓤 H 𝓜 𝓖) 2 0 tt behind, tt) (λ κs. (ptr-vals, tt)) (λ κs. (mut-tells (named 0) (κs .0) (T.the-row (namedLft 2 1 tt κs)), tt))
     (λ κs qs bounds a g are. walk 𝓤 H (𝓖 .A) (givenOf 𝓤 H 𝓜 𝓖) (𝓜 .mem) (𝓡 .run) (κs .0) (κs .1 .0) (qs .0) (qs .1 .0) bounds (a .0 .ptr .0) (a .0 .ptr .1) (a .0 .name) (a .0 .now)
-    (tables 𝓤 H 𝓜 𝓡 code.env .C) (tables 𝓤 H 𝓜 𝓡 code.env .Λ) (framed 𝓤 H 𝓜 𝓖 𝓡 code.env) (cited 𝓤 H (Callee 𝓤 H (𝓖 .A) step.ended (step.clauses 𝓤 H (𝓖 .A) (𝓜 .mem) (𝓡 .run))) 𝓜 𝓡 code.env #step step-def.routine code.calls-reader·step (step-thm.met 𝓤 H 𝓜 𝓖 𝓡)))
+    (tables 𝓤 H 𝓜 𝓡 code.env .C) (tables 𝓤 H 𝓜 𝓡 code.env .Λ) (framed 𝓤 H 𝓜 𝓖 𝓡 code.env) (cited 𝓤 H (Callee 𝓤 H (𝓖 .A) step.ended (step.clauses 𝓤 H (𝓖 .A) (𝓜 .mem) (𝓡 .run))) 𝓜 𝓡 code.env #step step-def.routine code.calls-segment·Segmenter·next (step-thm.met 𝓤 H 𝓜 𝓖 𝓡)))

@@ -1,4 +1,4 @@
--- `Reader::next` meets its contract: a walk of its MIR. The reader is taken apart, and `step` is called on its fields, in their order.
+-- `Reader::next` meets its contract: a walk of its MIR. The reader is taken apart, and the stepping call is made on its fields, in their order.
 use mathlib.Core.Path.{_≡_, refl, sym, subst}
 use mathlib.Core.List.{[], _∷_}
 use lib.Dec.{T as Holds}
@@ -35,10 +35,10 @@ use Rattle.reader.proofs.Called.{Callee, tokens, asks, gave}
 use Rattle.reader.proofs.Held.{α, columns, D, L, R, args, cells, flats, mach, Own, Fields, twice, opened, typed, wt, fields-are}
 use Rattle.reader.proofs.Stands.{stays, goes, ends, framed, stands}
 use Rattle.reader.proofs.Walk.{taker, taken}
-use Rattle.reader.proofs.step as step
-use Rattle.reader.proofs.step.Symbol as step-def
-use Rattle.reader.proofs.step.Symbol.{name as #step}
-use Rattle.reader.proofs.step.Met as step-thm
+use Rattle.segment.proofs.Segmenter.next as step
+use Rattle.segment.proofs.Segmenter.next.Symbol as step-def
+use Rattle.segment.proofs.Segmenter.next.Symbol.{name as #step}
+use Rattle.segment.proofs.Segmenter.next.Met as step-thm
 use Rattle.reader.proofs.Reader.next.Key.{name as #next}
 use Rattle.reader.proofs.Reader.next as next
 use Rattle.reader.proofs.Reader.next.Statement as stated
@@ -57,7 +57,7 @@ module _ {M : Type 1} (𝓤 : URA M) (H : Heap 𝓤) (A : Atoms 𝓤) (W : Given
   abbrev Post : Val → SProp 𝓤
   Post = walkOf 𝓤 H A next.ended stayed (next.clauses 𝓤 H A at-mem run) .post (((κ, tt), (q, tt), tt, (d, tt), (mach (α κ) d ∷ [], tt)), tt)
 
-  -- `step`, called on the reader's fields
+  -- the stepping call on the reader's fields
   abbrev Step : Contract 𝓤
   Step = Callee 𝓤 H A step.ended (step.clauses 𝓤 H A at-mem run)
 
@@ -97,4 +97,4 @@ next-spec 𝓤 H 𝓜 𝓖 𝓡 =
     stands 𝓤 H 𝓜 𝓖 𝓡 code.env #next code.function (code.unfolded 𝓤 H 𝓜 𝓡) next.ended stayed (next.clauses 𝓤 H (𝓖 .A) (𝓜 .mem) (𝓡 .run))
     (goes 𝓤 H (𝓖 .A) (givenOf 𝓤 H 𝓜 𝓖) (next.ended .signature .params) (next.ended .kept) (λ κs. tt)) (λ κs. (LL.vals (D (α (κs .0))) (L (α (κs .0))), tt)) (λ κs. (LL.tells (D (α (κs .0))) (L (α (κs .0))), tt))
     (λ κs qs bounds a g are. walk 𝓤 H (𝓖 .A) (givenOf 𝓤 H 𝓜 𝓖) (𝓜 .mem) (𝓡 .run) (κs .0) (qs .0) (a .0) (tables 𝓤 H 𝓜 𝓡 code.env .C) (tables 𝓤 H 𝓜 𝓡 code.env .Λ) (framed 𝓤 H 𝓜 𝓖 𝓡 code.env)
-    (cited 𝓤 H (Callee 𝓤 H (𝓖 .A) step.ended (step.clauses 𝓤 H (𝓖 .A) (𝓜 .mem) (𝓡 .run))) 𝓜 𝓡 code.env #step step-def.routine code.calls-reader·step (step-thm.met 𝓤 H 𝓜 𝓖 𝓡)) (are .0))
+    (cited 𝓤 H (Callee 𝓤 H (𝓖 .A) step.ended (step.clauses 𝓤 H (𝓖 .A) (𝓜 .mem) (𝓡 .run))) 𝓜 𝓡 code.env #step step-def.routine code.calls-segment·Segmenter·next (step-thm.met 𝓤 H 𝓜 𝓖 𝓡)) (are .0))

@@ -3,16 +3,16 @@ use Rattle.replay.proofs.texts.calls.Statement.{statement}
 use Rattle.replay.proofs.texts.calls.Tie as tie
 
 abbrev Inv-loop : tie.InvT-loop
-Inv-loop to₀ at scalars breaks uses myanmars categories words semojis memojis cemojis pictographs selectors decomposes firsts counts pscalars pbreaks puses pcategories end₀ state₀ turns₀ to end state turns = Unit {0}
+Inv-loop to₀ at wides bytes firsts end₀ state₀ turns₀ to end state turns = Unit {0}
 
 abbrev μ-loop : tie.MeasureT-loop
-μ-loop to₀ at scalars breaks uses myanmars categories words semojis memojis cemojis pictographs selectors decomposes firsts counts pscalars pbreaks puses pcategories end₀ state₀ turns₀ to end state turns = turns
+μ-loop to₀ at wides bytes firsts end₀ state₀ turns₀ to end state turns = turns
 
 loop-holds : tie.Need-loop-holds Inv-loop μ-loop
 loop-holds c = search needs
 
-next-requires : tie.Need-next-requires Inv-loop μ-loop
-next-requires c κs = search needs
+next-in-requires : tie.Need-next-in-requires Inv-loop μ-loop
+next-in-requires c κs = search needs
 
 enum-told : tie.Need-enum-told Inv-loop μ-loop
 enum-told c = search needs
@@ -45,7 +45,7 @@ calls-spec =
     Inv-loop
     μ-loop
     loop-holds
-    next-requires
+    next-in-requires
     enum-told
     call-requires
     sub-turns

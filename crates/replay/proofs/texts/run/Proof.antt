@@ -20,23 +20,23 @@ cells16-requires c κs = search needs
 array-borrow-prefix-oscalars : tie.Need-array-borrow-prefix-oscalars
 array-borrow-prefix-oscalars c = search needs
 
-slice-aggregate-run : tie.Need-slice-aggregate-run
-slice-aggregate-run c = sym (length-take-le _ (c .before .before .before .cells32 .result) (omega arith))
+slice-aggregate-run-in : tie.Need-slice-aggregate-run-in
+slice-aggregate-run-in c = sym (length-take-le _ (c .before .before .before .cells32 .result) (omega arith))
 
 array-borrow-prefix-oclasses : tie.Need-array-borrow-prefix-oclasses
 array-borrow-prefix-oclasses c = search needs
 
-slice-aggregate-run-2 : tie.Need-slice-aggregate-run-2
-slice-aggregate-run-2 c = sym (length-take-le _ (c .before .before .before .cells8 .result) (omega arith))
+slice-aggregate-run-in-2 : tie.Need-slice-aggregate-run-in-2
+slice-aggregate-run-in-2 c = sym (length-take-le _ (c .before .before .before .cells8 .result) (omega arith))
 
 array-borrow-prefix-oclusters : tie.Need-array-borrow-prefix-oclusters
 array-borrow-prefix-oclusters c = search needs
 
-slice-aggregate-run-3 : tie.Need-slice-aggregate-run-3
-slice-aggregate-run-3 c = sym (length-take-le _ (c .before .before .before .cells16 .result) (omega arith))
+slice-aggregate-run-in-3 : tie.Need-slice-aggregate-run-in-3
+slice-aggregate-run-in-3 c = sym (length-take-le _ (c .before .before .before .cells16 .result) (omega arith))
 
-run-requires : tie.Need-run-requires
-run-requires c κs = search needs
+run-in-requires : tie.Need-run-in-requires
+run-in-requires c κs = search needs
 
 ran-requires : tie.Need-ran-requires
 ran-requires c κs = search needs
@@ -56,12 +56,12 @@ run-spec =
     cells8-requires
     cells16-requires
     array-borrow-prefix-oscalars
-    slice-aggregate-run
+    slice-aggregate-run-in
     array-borrow-prefix-oclasses
-    slice-aggregate-run-2
+    slice-aggregate-run-in-2
     array-borrow-prefix-oclusters
-    slice-aggregate-run-3
-    run-requires
+    slice-aggregate-run-in-3
+    run-in-requires
     ran-requires
     written-requires
     returns)

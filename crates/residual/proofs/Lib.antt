@@ -1,0 +1,2 @@
+pub mod Residual
+pub mod Steps

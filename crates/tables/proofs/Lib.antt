@@ -1,0 +1,14 @@
+pub mod Cells
+pub mod Pairs
+pub mod SimpleRules
+pub mod MyanmarRules
+pub mod ComplexRules
+pub mod KhmerRules
+pub mod EmojiFine
+pub mod SimpleFine
+pub mod OtherFine
+pub mod MyanmarFine
+pub mod UseFine
+pub mod Kinzi
+pub mod MyanmarCalm
+pub mod Cited
