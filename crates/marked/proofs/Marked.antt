@@ -55,12 +55,13 @@ abbrev later : List (List Outcome) → List (List Outcome)
 later [] = []
 later (o ∷ os) = os
 
-pub marked : map (map given) table ≡ map (map told) table
-marked = ap later (computed .0)
+-- with their number, so that no row goes unnoticed
+pub marked : (length table ≡ 16) × (map (map given) table ≡ map (map told) table)
+marked = (refl, ap later (computed .0))
 
 -- and so how document 01 is read where it is open
-pub read : map given readings ≡ map told readings
-read = ap first (computed .0)
+pub read : (length readings ≡ 7) × (map given readings ≡ map told readings)
+read = (refl, ap first (computed .0))
 
 -- "Programs to be shown shut out: … one that takes the whole text in its first call and then nothing (32 at most, P04)": of those that
 -- meet the stepping call's contract, for each parser and mode

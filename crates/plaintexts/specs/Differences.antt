@@ -2,7 +2,7 @@
 -- text, none of them plain, with the places where they start and those where the boundaries of the GB or WB rules stand. And a few
 -- plain texts, where they are the same.
 use Prim.Native.Nat.{ℕ}
-use mathlib.Core.Bool.{Bool, true, false, not, _&&_}
+use mathlib.Core.Bool.{Bool, true, false, not, _&&_, _||_}
 use mathlib.Core.List.{List, [], _∷_, _++_, map}
 use lib.ListN.{length, replicate}
 use lib.Dec.{eqb}
@@ -42,6 +42,10 @@ pub data Into : Type 0 where
   Clusters : Into
   Words : Into
 
+abbrev isWords : Into → Bool
+isWords Clusters = false
+isWords Words = true
+
 -- a text, and the places told of it; the word run has no modes
 pub record Case : Type 0 where
   pub into : Into
@@ -57,7 +61,7 @@ clusters text port annex = record { into = Clusters; text = text; crate = port; 
 abbrev words : List Character → List ℕ → List ℕ → Case
 words text port annex = record { into = Words; text = text; crate = port; whole = port; annex = annex }
 
-abbrev differences : List Case
+abbrev pub differences : List Case
 differences =
     -- GB4: an extension stays with a control
     clusters (no CN ∷ no EX ∷ []) (0 ∷ []) (0 ∷ 1 ∷ [])
@@ -108,8 +112,9 @@ differences =
     ∷ words (no W.ZWJ ∷ emoji W.RI ∷ no W.RI ∷ no W.RI ∷ []) (0 ∷ []) (0 ∷ 3 ∷ [])
     ∷ []
 
--- P02, a cluster of 31 as P07, the break of P06, and all that a plain text may have; P14, and P16 without the LF
-abbrev plains : List Case
+-- P02, a cluster of 31 as P07, the break of P06, and all that a plain text may have; P14, P16 without the LF, and every class that a plain
+-- word text may have
+abbrev pub plains : List Case
 plains =
     clusters [] [] []
     ∷ clusters (no CR ∷ no LF ∷ []) (0 ∷ []) (0 ∷ [])
@@ -122,15 +127,38 @@ plains =
     ∷ words (no W.RI ∷ no W.RI ∷ no W.RI ∷ []) (0 ∷ 2 ∷ []) (0 ∷ 2 ∷ [])
     ∷ words (no W.CR ∷ no W.LF ∷ no W.HL ∷ no W.DQ ∷ no W.HL ∷ no W.EX ∷ no W.NU ∷ no W.WSegSpace ∷ no W.WSegSpace ∷ no W.RI ∷ [])
     (0 ∷ 2 ∷ 7 ∷ 9 ∷ []) (0 ∷ 2 ∷ 7 ∷ 9 ∷ [])
+    ∷ words (no W.Other ∷ no W.NL ∷ no W.KA ∷ no W.KA ∷ no W.EX ∷ no W.ALetter ∷ no W.ML ∷ no W.HL ∷ no W.SQ ∷ no W.ALetter ∷ no W.NU ∷ no W.MN ∷ no W.NU ∷ [])
+    (0 ∷ 1 ∷ 2 ∷ []) (0 ∷ 1 ∷ 2 ∷ [])
     ∷ []
+
+-- whether a word class stands in a plain text of the table; Extend, FO and ZWJ stand in none
+abbrev stands : ℕ → List Character → Bool
+stands k [] = false
+stands k (c ∷ cs) = eqb (c .0) k || stands k cs
+
+abbrev standsIn : ℕ → Case → Bool
+standsIn k c = isWords (c .into) && stands k (c .text)
+
+abbrev standsInAny : ℕ → List Case → Bool
+standsInAny k [] = false
+standsInAny k (c ∷ cs) = standsIn k c || standsInAny k cs
+
+abbrev pub standing : List Bool
+standing =
+    map (λ k. standsInAny k plains)
+    (W.Other ∷ W.CR ∷ W.LF ∷ W.NL ∷ W.WSegSpace ∷ W.ALetter ∷ W.HL ∷ W.ML ∷ W.MidNumLet ∷ W.MN ∷ W.NU ∷ W.SQ ∷ W.DQ ∷ W.KA ∷ W.EX ∷ W.RI ∷ [])
+
+-- a text that is not plain, where they are the same all the same: the run joins it by WB5, the annex by WB3c
+abbrev pub alikes : List Case
+alikes = words (no W.ALetter ∷ no W.ZWJ ∷ emoji W.ALetter ∷ []) (0 ∷ []) (0 ∷ []) ∷ []
 
 -- what is told of a text, and what the definitions give: the check's verdict, whether it is plain in either mode, the places in either
 -- mode and by the annex, and whether these differ
 abbrev pub Facts : Type 0
 Facts = Verdict × Bool × Bool × List ℕ × List ℕ × List ℕ × Bool
 
-abbrev told : Bool → Case → Facts
-told plain c = (Accepted, plain, plain, c .crate, c .whole, c .annex, not plain)
+abbrev told : Bool → Bool → Case → Facts
+told plain differ c = (Accepted, plain, plain, c .crate, c .whole, c .annex, differ)
 
 abbrev same : List ℕ → List ℕ → Bool
 same [] [] = true
@@ -161,7 +189,7 @@ abbrev given : Case → Facts
 given c = givenOf (c .into) (c .text)
 
 abbrev pub allGiven : List Facts
-allGiven = map given differences ++ map given plains
+allGiven = map given differences ++ map given plains ++ map given alikes
 
 abbrev pub allTold : List Facts
-allTold = map (told false) differences ++ map (told true) plains
+allTold = map (told false true) differences ++ map (told true false) plains ++ map (told false false) alikes
