@@ -13,14 +13,14 @@ use Rattle.classes.specs.Scalar.{CGJ}
 use Rattle.classes.specs.UseClass.{B, CMAbv, CMBlw, H}
 use Rattle.token.specs.Token.{scalarOf, kindOf, packed}
 use Rattle.parse.specs.declared.Parse.{Parse}
-use Rattle.parse.specs.declared.Flow.{Flow}
-use Rattle.parse.specs.declared.Flow.the-variants.{GoOn, Stop, Full, End}
+use Rattle.parse.specs.declared.Flow.the-variants.{GoOn}
 use Rattle.parse.specs.declared.Place.{Place}
-use Rattle.parse.specs.State.{tokenAt, startPlace, atMost, loop, stepOf, pushOf, noteOf, begin, going, isGoing, withFlow}
+use Rattle.parse.specs.State.{tokenAt, startPlace, atMost, loop, stepOf, pushOf, noteOf, begin, going, withFlow}
 use Rattle.parse.specs.Rule.{Rule, run, holds, take, many, is, oneOf, thriceOf, member}
 use Rattle.parse.specs.Shared.{emojiMark, emojiExtension, emojiTurn, emojis, newline, otherArm}
 use Rattle.parse.proofs.Loop.{false-true, if-intro, by-test}
 use Rattle.parse.proofs.Keeps.{run-mode}
+use Rattle.parse.proofs.Steps.{going-flow}
 use Rattle.parse.proofs.Runs.{run-still, run-seq, run-stays}
 use Rattle.complex.specs.Grammar.{given, byKind, baseVs, symbolMarks, consonantMarks, isCoeng, halant, opensHalant, halantBase, isVowelModifier, vowelModifier, medials, vowels, finals, syllable, markedSyllable, isSymbolMark, standardTail, standard, halantNumber, number, symbol, letter, cluster}
 use Rattle.complex.specs.Ignored.{syllableClasses, Unbarred, ignoring, markedSyllableAsRust, Tree, plain, place, after, fork, ruleOf, runOf, clusterTree, clusterAsRust, unlessEnded, noMore, Same}
@@ -51,14 +51,8 @@ module _ (text : List ℕ) (unbarred : Unbarred text) (i : ℕ) where
   below-none (inl e) = rw e
   below-none (inr e) = joiner-none e .1
 
-flow-on : (f : Flow) → isGoing f ≡ true → GoOn ≡ f
-flow-on GoOn g = refl
-flow-on Stop g = absurd (false-true g)
-flow-on Full g = absurd (false-true g)
-flow-on End g = absurd (false-true g)
-
 go-on : (s : Parse) → going s ≡ true → withFlow GoOn s ≡ s
-go-on s g = ap (λ f. withFlow f s) (flow-on (s .flow) g)
+go-on s g = ap (λ f. withFlow f s) (sym (going-flow (s .flow) g))
 
 ignoring-going : (r : Rule) (text : List ℕ) (s : Parse) → going s ≡ true → ignoring r text s ≡ withFlow GoOn (run r text s)
 ignoring-going r text s g = if-intro (λ q. q ≡ withFlow GoOn (run r text s)) (going s) _ _ (λ h. refl) (λ h. absurd (false-true (sym h ∙ g)))
