@@ -10,7 +10,8 @@
  * A text is 18 columns, in this order in every call. Fourteen with a cell for each record: scalar, cluster break, USE class, Myanmar
  * class, category, word class, then the marks (0 no, 1 yes) emoji for the simple, the Myanmar and the complex parser, pictograph,
  * variation selector, decompose, then first part and count of parts. Four with a cell for each part: scalar, cluster break, USE class,
- * category. The codes are in ezherbut_codes.h. A text has at most 4,096 records and 4,096 parts.
+ * category. The codes, and the numbers of parsers, modes and answers, are in ezherbut_codes.h. A text has at most 4,096 records and
+ * 4,096 parts.
  *
  * Results. Each function returns a refusal, 0 where there is none, and writes numbers to the results column, which comes last: the
  * refusal, its side and its index in the first three cells, then what the function says below. Cells past those keep their content.
@@ -44,31 +45,10 @@
 extern "C" {
 #endif
 
-/* Parsers. */
-enum {
-    EZH_SIMPLE = 0,
-    EZH_MYANMAR = 1,
-    EZH_COMPLEX = 2,
-    /* complex, for a text in the Khmer script */
-    EZH_KHMER = 3,
-};
-
-/* Modes: the answers of swash 0.2.10, or the same grammar without a repeated character. */
-enum {
-    EZH_CRATE = 0,
-    EZH_WHOLE = 1,
-};
-
-/* What the index of a refusal counts. */
-enum {
-    EZH_SIDE_NEITHER = 0,
-    EZH_SIDE_RECORD = 1,
-    EZH_SIDE_PART = 2,
-};
-
 /* The first cells of every results column. */
 enum {
     EZH_REFUSAL = 0,
+    /* EZH_SIDE_NEITHER, EZH_SIDE_RECORD or EZH_SIDE_PART */
     EZH_SIDE = 1,
     EZH_INDEX = 2,
     /* how many cells a check and a word run write */
@@ -84,7 +64,7 @@ enum {
 
 /* The further cells of ezh_step's results. */
 enum {
-    /* 0 a cluster, 1 the end, 2 a refusal */
+    /* EZH_WHAT_FOUND a cluster, EZH_WHAT_OVER the end, EZH_WHAT_BAD a refusal */
     EZH_STEP_WHAT = 3,
     /* the next place; with a refusal the place that was given */
     EZH_STEP_PLACE = 4,
@@ -92,9 +72,9 @@ enum {
     EZH_STEP_PASSED = 5,
     /* how many characters the cluster has, at most EZH_CLUSTER_CELLS */
     EZH_STEP_CHARACTERS = 6,
-    /* 0 none, 1 default, 2 text, 3 colour */
+    /* EZH_EMOJI_NONE, EZH_EMOJI_DEFAULT, EZH_EMOJI_TEXT or EZH_EMOJI_COLOR */
     EZH_STEP_EMOJI = 7,
-    /* 0 none, 1 newline, 2 from the scalar in the next cell */
+    /* EZH_SPACE_NONE, EZH_SPACE_NEWLINE, or EZH_SPACE_FROM the scalar in the next cell */
     EZH_STEP_SPACE = 8,
     EZH_STEP_SPACE_SCALAR = 9,
     EZH_STEP_BROKEN = 10,

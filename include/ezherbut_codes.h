@@ -1,4 +1,4 @@
-/* The class codes of document 01's lists. Written by tools/codes from crates/classes; do not edit. */
+/* The codes of document 01's lists and of the answers. Written by tools/codes from the crates' definitions; do not edit. */
 #ifndef EZHERBUT_CODES_H
 #define EZHERBUT_CODES_H
 
@@ -138,6 +138,49 @@ enum {
     EZH_SHAPE_ZWNJ = 12,
     EZH_SHAPE_ZWJ = 13,
     EZH_SHAPE_OTHER = 14,
+};
+
+/* Parsers; Khmer is complex, for a text in the Khmer script. */
+enum {
+    EZH_SIMPLE = 0,
+    EZH_MYANMAR = 1,
+    EZH_COMPLEX = 2,
+    EZH_KHMER = 3,
+};
+
+/* Modes: the answers of swash 0.2.10, or the same grammar without a repeated character. */
+enum {
+    EZH_CRATE = 0,
+    EZH_WHOLE = 1,
+};
+
+/* What the index of a refusal counts. */
+enum {
+    EZH_SIDE_NEITHER = 0,
+    EZH_SIDE_RECORD = 1,
+    EZH_SIDE_PART = 2,
+};
+
+/* What a stepping call met: a cluster, the end of the text, or a refusal. */
+enum {
+    EZH_WHAT_FOUND = 0,
+    EZH_WHAT_OVER = 1,
+    EZH_WHAT_BAD = 2,
+};
+
+/* A cluster's emoji. */
+enum {
+    EZH_EMOJI_NONE = 0,
+    EZH_EMOJI_DEFAULT = 1,
+    EZH_EMOJI_TEXT = 2,
+    EZH_EMOJI_COLOR = 3,
+};
+
+/* A cluster's space; From has its scalar in the cell after it. */
+enum {
+    EZH_SPACE_NONE = 0,
+    EZH_SPACE_NEWLINE = 1,
+    EZH_SPACE_FROM = 2,
 };
 
 #endif

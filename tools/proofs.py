@@ -238,7 +238,8 @@ def origins(table):
         ("Rattle.parse.specs.Shared", module("parse", "Shared").own),
         (f"Rattle.{table.crate}.specs.Grammar", table.module.own),
         (f"Rattle.tables.specs.{table.name}Table", [table.antt_name]),
-        ("Rattle.residual.proofs.Residual", "first free".split()),
+        ("Rattle.parse.proofs.Free", ["free"]),
+        ("Rattle.residual.proofs.Residual", ["first"]),
         ("Rattle.tables.proofs.Cells", cells.split()),
     ]
 

@@ -54,7 +54,7 @@ static void print_clusters(const char *name, uint64_t mode, ezh_text t) {
             printf("  refused %d, side %d, index %d\n", (int)refusal, (int)results[EZH_SIDE], (int)results[EZH_INDEX]);
             return;
         }
-        if (results[EZH_STEP_WHAT] != 0) {
+        if (results[EZH_STEP_WHAT] != EZH_WHAT_FOUND) {
             return;
         }
         printf("  cluster:");

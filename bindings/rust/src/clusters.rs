@@ -1,5 +1,6 @@
 //! Clusters: one call after the other, or a full run.
 
+use crate::codes::{emoji, mode, parser, space, what};
 use crate::sys::call;
 use crate::{Columns, Refusal};
 
@@ -15,10 +16,10 @@ pub enum Parser {
 impl Parser {
     fn number(self) -> u64 {
         match self {
-            Parser::Simple => 0,
-            Parser::Myanmar => 1,
-            Parser::Complex => 2,
-            Parser::Khmer => 3,
+            Parser::Simple => parser::SIMPLE,
+            Parser::Myanmar => parser::MYANMAR,
+            Parser::Complex => parser::COMPLEX,
+            Parser::Khmer => parser::KHMER,
         }
     }
 }
@@ -33,8 +34,8 @@ pub enum Mode {
 impl Mode {
     fn number(self) -> u64 {
         match self {
-            Mode::Crate => 0,
-            Mode::Whole => 1,
+            Mode::Crate => mode::CRATE,
+            Mode::Whole => mode::WHOLE,
         }
     }
 }
@@ -130,14 +131,14 @@ impl Handed {
         Cluster {
             characters: (0..self.results[6] as usize).map(|i| self.character(i)).collect(),
             emoji: match self.results[7] {
-                0 => Emoji::None,
-                1 => Emoji::Default,
-                2 => Emoji::Text,
+                emoji::NONE => Emoji::None,
+                emoji::DEFAULT => Emoji::Default,
+                emoji::TEXT => Emoji::Text,
                 _ => Emoji::Color,
             },
             space: match self.results[8] {
-                0 => Space::None,
-                1 => Space::Newline,
+                space::NONE => Space::None,
+                space::NEWLINE => Space::Newline,
                 _ => Space::From(self.results[9] as u32),
             },
             broken: self.results[10] == 1,
@@ -150,7 +151,7 @@ impl Handed {
         Ok(Step {
             place: self.results[4] as usize,
             passed: self.results[5] as usize,
-            cluster: (self.results[3] == 0).then(|| self.cluster()),
+            cluster: (self.results[3] == what::FOUND).then(|| self.cluster()),
         })
     }
 }

@@ -1,4 +1,4 @@
-//! The class codes of document 01's lists. Written by tools/codes from crates/classes; do not edit.
+//! The codes of document 01's lists and of the answers. Written by tools/codes from the crates' definitions; do not edit.
 
 /// Cluster break: how the simple parser, and every emoji extension, tells characters apart.
 pub mod cluster_break {
@@ -136,4 +136,47 @@ pub mod shape {
     pub const ZWNJ: u8 = 12;
     pub const ZWJ: u8 = 13;
     pub const OTHER: u8 = 14;
+}
+
+/// Parsers; Khmer is complex, for a text in the Khmer script.
+pub mod parser {
+    pub const SIMPLE: u64 = 0;
+    pub const MYANMAR: u64 = 1;
+    pub const COMPLEX: u64 = 2;
+    pub const KHMER: u64 = 3;
+}
+
+/// Modes: the answers of swash 0.2.10, or the same grammar without a repeated character.
+pub mod mode {
+    pub const CRATE: u64 = 0;
+    pub const WHOLE: u64 = 1;
+}
+
+/// What the index of a refusal counts.
+pub mod side {
+    pub const NEITHER: u64 = 0;
+    pub const RECORD: u64 = 1;
+    pub const PART: u64 = 2;
+}
+
+/// What a stepping call met: a cluster, the end of the text, or a refusal.
+pub mod what {
+    pub const FOUND: u64 = 0;
+    pub const OVER: u64 = 1;
+    pub const BAD: u64 = 2;
+}
+
+/// A cluster's emoji.
+pub mod emoji {
+    pub const NONE: u64 = 0;
+    pub const DEFAULT: u64 = 1;
+    pub const TEXT: u64 = 2;
+    pub const COLOR: u64 = 3;
+}
+
+/// A cluster's space; From has its scalar in the cell after it.
+pub mod space {
+    pub const NONE: u64 = 0;
+    pub const NEWLINE: u64 = 1;
+    pub const FROM: u64 = 2;
 }

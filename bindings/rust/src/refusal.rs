@@ -3,6 +3,8 @@
 use std::error::Error;
 use std::fmt;
 
+use crate::codes::side;
+
 /// What a refusal's index counts.
 #[derive(Clone, Copy, Debug, PartialEq, Eq)]
 pub enum Side {
@@ -26,8 +28,8 @@ impl Refusal {
             return Ok(());
         }
         let side = match results[1] {
-            0 => Side::Neither,
-            1 => Side::Record,
+            side::NEITHER => Side::Neither,
+            side::RECORD => Side::Record,
             _ => Side::Part,
         };
         Err(Refusal {

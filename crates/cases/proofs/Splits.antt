@@ -1,15 +1,16 @@
 -- A walk over a text by positions is the definitions' walk over what is left of it. Assumes nothing.
-use Prim.Native.Nat.{ℕ, zero, suc, _+_, _-_, _<_, _≤_}
+use Prim.Native.Nat.{ℕ, suc, _+_, _-_, _<_, _≤_}
 use mathlib.Core.Path.{_≡_, refl, sym, _∙_, ap}
 use mathlib.Core.Bool.{Bool, true, false, cond}
 use mathlib.Core.List.{List, [], _∷_}
 use native.Mathlib.Numerals.{add-one}
 use native.Mathlib.Omega.{arith}
-use lib.Dec.{eqb}
+use lib.Dec.{eqb, ltb}
 use lib.ListN.{length, getD, take, drop, drop-of-length-le, length-drop}
 use lib.Seq.{drop-cons, drop-drop}
-use borrow.Author.Tests.{eq-eqb, ne-eqb}
-use Rattle.cases.specs.Parts.{before, upTo, after, rest, part, count, allBelow, agree, equal}
+use borrow.Author.Tests.{eq-eqb, ne-eqb, lt-ltb, le-ltb, ltb-false}
+use Rattle.records.proofs.Unique.{unique}
+use Rattle.cases.specs.Parts.{before, upTo, after, nextFrom, rest, part, count, allBelow, agree, equal}
 use Rattle.cases.proofs.Choices.{all-more, all-fails}
 
 -- at byte i, of the loops that look for a separator and that count them: k is what they answer
@@ -57,17 +58,13 @@ before-within s (x ∷ xs) = let h : before s xs ≤ length xs = before-within s
 
 -- where a part ends, and where the next begins
 module _ (s : ℕ) (xs : List ℕ) (at end : ℕ) (e : end ≡ at + before s (drop at xs)) where
-  pub next-found : drop (end + 1) xs ≡ after s (drop at xs)
-  unfolding after
-  next-found =
-      let f : end + 1 ≡ at + suc (before s (drop at xs)) = omega arith in
-      rw f (sym (drop-drop (suc (before s (drop at xs))) at xs))
+  pub next-found : end < length xs → end + 1 ≡ nextFrom s at xs
+  unfolding nextFrom
+  next-found h = rw (← e, lt-ltb _ _ h)
 
-  pub next-none : length xs ≤ end → drop end xs ≡ after s (drop at xs)
-  unfolding after
-  next-none h =
-      let k : length xs ≤ at + suc (before s (drop at xs)) = omega arith in
-      drop-of-length-le xs h ∙ sym (drop-drop (suc (before s (drop at xs))) at xs ∙ drop-of-length-le xs k)
+  pub next-none : length xs ≤ end → end ≡ nextFrom s at xs
+  unfolding nextFrom
+  next-none h = rw (← e, le-ltb _ _ h)
 
   pub part-within : at ≤ length xs → end ≤ length xs
   part-within h = omega (arith, before-within s (drop at xs), length-drop at xs)
@@ -80,11 +77,31 @@ pub part-none : (s : ℕ) (xs : List ℕ) (at : ℕ) → length xs < at → [] �
 unfolding upTo before
 part-none s xs at h = let k : length xs ≤ at = omega arith in rw (drop-of-length-le xs k)
 
+-- the bytes that are left where the next part begins
+pub next-after : (s at : ℕ) (xs : List ℕ) → drop (nextFrom s at xs) xs ≡ after s (drop at xs)
+unfolding after nextFrom
+next-after s at xs = go (ltb end (length xs)) refl ∙ sym (drop-drop (suc (before s (drop at xs))) at xs)
+  where
+    end : ℕ
+    end = at + before s (drop at xs)
+
+    -- where the text has ended, one byte further there is nothing either
+    go : (b : Bool) → ltb end (length xs) ≡ b → drop (cond b (end + 1) end) xs ≡ drop (at + suc (before s (drop at xs))) xs
+    go true h = let f : end + 1 ≡ at + suc (before s (drop at xs)) = omega arith in rw f
+    go false h =
+        let l : length xs ≤ end = ltb-false end (length xs) h in
+        let m : length xs ≤ at + suc (before s (drop at xs)) = omega arith in
+        drop-of-length-le xs l ∙ sym (drop-of-length-le xs m)
+
+-- "Uniqueness is shown"
+pub next-of-unique : (s at : ℕ) (xs : List ℕ) (a b : ℕ) → a ≡ nextFrom s at xs → b ≡ nextFrom s at xs → a ≡ b
+next-of-unique s at xs = unique (nextFrom s at xs)
+
 -- after i parts
 module _ (s : ℕ) (xs : List ℕ) (i at : ℕ) (e : drop at xs ≡ rest s i xs) where
-  pub rest-more : (next : ℕ) → drop next xs ≡ after s (drop at xs) → drop next xs ≡ rest s (i + 1) xs
+  pub rest-more : (next : ℕ) → next ≡ nextFrom s at xs → drop next xs ≡ rest s (i + 1) xs
   unfolding rest
-  rest-more next h = rw (add-one i) (h ∙ ap (after s) e)
+  rest-more next h = rw (add-one i, h) (next-after s at xs ∙ ap (after s) e)
 
   pub part-read : (p : List ℕ) → p ≡ upTo s (drop at xs) → p ≡ part s i xs
   unfolding part

@@ -1,8 +1,8 @@
 -- The parts of a text between separators, counted from 0.
-use Prim.Native.Nat.{ℕ, zero, suc}
+use Prim.Native.Nat.{ℕ, zero, suc, _+_}
 use mathlib.Core.Bool.{Bool, true, cond, _&&_}
 use mathlib.Core.List.{List, [], _∷_}
-use lib.Dec.{eqb}
+use lib.Dec.{eqb, ltb}
 use lib.ListN.{length, getD, take, drop}
 
 -- how many bytes stand before the first s
@@ -17,6 +17,13 @@ upTo s xs = take (before s xs) xs
 -- the bytes after the first s: none, where there is none
 unfoldable pub after : ℕ → List ℕ → List ℕ
 after s xs = drop (suc (before s xs)) xs
+
+-- where the next part begins after one that begins at `at`: behind the first s from there on; where there is none, at the end of the
+-- text, or at `at` itself, if that is past the end
+unfoldable pub nextFrom : ℕ → ℕ → List ℕ → ℕ
+nextFrom s at xs =
+    let end = at + before s (drop at xs) in
+    cond (ltb end (length xs)) (end + 1) end
 
 -- what is left after k parts
 unfoldable pub rest : ℕ → ℕ → List ℕ → List ℕ

@@ -3,7 +3,7 @@ ghost use mathlib.Core.Path.{_≡_};
 ghost use Prim.Native.Nat.{_+_};
 ghost use lib.ListN.{drop};
 ghost use Rattle.cases.specs.Parts as Parts;
-ghost use Rattle.cases.specs.Parts.{before, upTo, after, equal};
+ghost use Rattle.cases.specs.Parts.{before, upTo, nextFrom, equal};
 
 // Where the part that begins at `at` ends.
 pub(crate) fn end_of(xs: &[u8], at: usize, s: u8) -> usize
@@ -21,7 +21,7 @@ pub(crate) fn end_of(xs: &[u8], at: usize, s: u8) -> usize
 
 // Where the next part begins: the end of the text, where there is none.
 pub fn next_of(xs: &[u8], at: usize, s: u8) -> usize
-    ensures { λ r. ⌜ drop r (now (xs .entry)) ≡ after s (drop at (now (xs .entry))) ⌝ }
+    ensures { λ r. ⌜ r ≡ nextFrom s at (now (xs .entry)) ⌝ }
 {
     let end = end_of(xs, at, s);
     if end < xs.len() {

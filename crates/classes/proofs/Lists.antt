@@ -1,10 +1,10 @@
--- The five lists of document 01: "codes count from 0", there are as many as the list's length says, and no two are equal. One
--- computed test says it of all five, and one law turns the test into the rule at each code.
+-- The five lists of document 01, and its list of shape classes: "codes count from 0", there are as many as the list's length says, and
+-- no two are equal. One computed test says it of all six, and one law turns the test into the rule at each code.
 -- Assumes nothing.
 use Prim.Native.Nat.{ℕ, zero, suc, _+_, _<_}
 use mathlib.Core.Path.{_≡_, refl}
 use mathlib.Core.Bool.{Bool, true, false, _&&_}
-use mathlib.Core.List.{List, [], _∷_}
+use mathlib.Core.List.{List, [], _∷_, map}
 use native.Mathlib.Omega.{arith}
 use lib.Dec.{eqb}
 use lib.ListN.{length, getD}
@@ -14,6 +14,7 @@ use Rattle.classes.specs.UseClass as UseClass
 use Rattle.classes.specs.MyanmarClass as MyanmarClass
 use Rattle.classes.specs.WordBreak as WordBreak
 use Rattle.classes.specs.Category as Category
+use Rattle.classes.specs.Shape as Shape
 
 -- the codes of the list are their places, counted from i
 abbrev pub counts : ℕ → List ℕ → Bool
@@ -41,14 +42,16 @@ lists =
     ∷ record { codes = MyanmarClass.myanmarClasses; len = MyanmarClass.len }
     ∷ record { codes = WordBreak.wordBreaks; len = WordBreak.len }
     ∷ record { codes = Category.categories; len = Category.len }
+    ∷ record { codes = map Shape.shapeCode Shape.shapes; len = 15 }
     ∷ []
 
 abbrev pub allListed : List Listed → Bool
 allListed [] = true
 allListed (l ∷ ls) = (counts 0 (l .codes) && eqb (length (l .codes)) (l .len)) && allListed ls
 
-pub all-listed : allListed lists ≡ true
-all-listed = refl
+-- with their number, so that no list goes unnoticed
+pub all-listed : (length lists ≡ 6) × (allListed lists ≡ true)
+all-listed = (refl, refl)
 
 -- so no two places of such a list hold the same code
 pub distinct : (xs : List ℕ) → counts 0 xs ≡ true → (i j : ℕ) → i < length xs → j < length xs → getD xs i 0 ≡ getD xs j 0 → i ≡ j

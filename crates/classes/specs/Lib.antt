@@ -1,5 +1,6 @@
 pub mod Category
 pub mod ClusterBreak
+pub mod Mode
 pub mod MyanmarClass
 pub mod Scalar
 pub mod Shape

@@ -21,3 +21,8 @@ shapeCode Vs = 11
 shapeCode Zwnj = 12
 shapeCode Zwj = 13
 shapeCode Other = 14
+
+-- the classes in order
+abbrev pub shapes : List Shape
+shapes =
+    Base ∷ Mark ∷ Control ∷ Reph ∷ Kinzi ∷ Halant ∷ VPre ∷ VBlw ∷ VMPre ∷ MedialRa ∷ Anusvara ∷ Vs ∷ Zwnj ∷ Zwj ∷ Other ∷ []

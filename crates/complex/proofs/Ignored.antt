@@ -2,7 +2,7 @@
 use Prim.Native.Nat.{ℕ}
 use mathlib.Core.Path.{_≡_, refl, sym, _∙_, ap}
 use mathlib.Core.Bool.{Bool, true, false, cond}
-use mathlib.Core.List.{List, [], _∷_}
+use mathlib.Core.List.{List, _∷_, map}
 use mathlib.Core.Logic.{_⊎_, inl, inr}
 use lib.Dec.{eqb, ltb}
 use lib.ListN.{length, List·getD-eq-default}
@@ -10,20 +10,20 @@ use borrow.Author.Tests.{ltb-true, ltb-false}
 use Rattle.classes.specs.declared.Mode.the-variants.{Crate}
 use Rattle.classes.specs.declared.Shape.the-variants.{Other}
 use Rattle.classes.specs.Scalar.{CGJ}
-use Rattle.classes.specs.UseClass.{B, CMAbv, CMBlw, H}
-use Rattle.token.specs.Token.{scalarOf, kindOf, packed}
+use Rattle.classes.specs.UseClass.{CMAbv, CMBlw}
+use Rattle.token.specs.Token.{scalarOf, kindOf}
 use Rattle.parse.specs.declared.Parse.{Parse}
-use Rattle.parse.specs.declared.Flow.{Flow}
-use Rattle.parse.specs.declared.Flow.the-variants.{GoOn, Stop, Full, End}
+use Rattle.parse.specs.declared.Flow.the-variants.{GoOn}
 use Rattle.parse.specs.declared.Place.{Place}
-use Rattle.parse.specs.State.{tokenAt, startPlace, atMost, loop, stepOf, pushOf, noteOf, begin, going, isGoing, withFlow}
+use Rattle.parse.specs.State.{tokenAt, atMost, loop, stepOf, pushOf, noteOf, begin, going, withFlow}
 use Rattle.parse.specs.Rule.{Rule, run, holds, take, many, is, oneOf, thriceOf, member}
 use Rattle.parse.specs.Shared.{emojiMark, emojiExtension, emojiTurn, emojis, newline, otherArm}
 use Rattle.parse.proofs.Loop.{false-true, if-intro, by-test}
 use Rattle.parse.proofs.Keeps.{run-mode}
+use Rattle.parse.proofs.Steps.{going-flow}
 use Rattle.parse.proofs.Runs.{run-still, run-seq, run-stays}
 use Rattle.complex.specs.Grammar.{given, byKind, baseVs, symbolMarks, consonantMarks, isCoeng, halant, opensHalant, halantBase, isVowelModifier, vowelModifier, medials, vowels, finals, syllable, markedSyllable, isSymbolMark, standardTail, standard, halantNumber, number, symbol, letter, cluster}
-use Rattle.complex.specs.Ignored.{syllableClasses, Unbarred, ignoring, markedSyllableAsRust, Tree, plain, place, after, fork, ruleOf, runOf, clusterTree, clusterAsRust, unlessEnded, noMore, Same}
+use Rattle.complex.specs.Ignored.{syllableClasses, Unbarred, ignoring, markedSyllableAsRust, onlyAbove, onlyBelow, Tree, plain, place, after, fork, ruleOf, runOf, clusterTree, clusterAsRust, unlessEnded, noMore, Same, ruled, pushes}
 use Rattle.complex.proofs.Spent.{Passed, many-spent, syllable-idle}
 
 -- not a class of a list is not its head and not one of the others
@@ -51,14 +51,8 @@ module _ (text : List ℕ) (unbarred : Unbarred text) (i : ℕ) where
   below-none (inl e) = rw e
   below-none (inr e) = joiner-none e .1
 
-flow-on : (f : Flow) → isGoing f ≡ true → GoOn ≡ f
-flow-on GoOn g = refl
-flow-on Stop g = absurd (false-true g)
-flow-on Full g = absurd (false-true g)
-flow-on End g = absurd (false-true g)
-
 go-on : (s : Parse) → going s ≡ true → withFlow GoOn s ≡ s
-go-on s g = ap (λ f. withFlow f s) (flow-on (s .flow) g)
+go-on s g = ap (λ f. withFlow f s) (sym (going-flow (s .flow) g))
 
 ignoring-going : (r : Rule) (text : List ℕ) (s : Parse) → going s ≡ true → ignoring r text s ≡ withFlow GoOn (run r text s)
 ignoring-going r text s g = if-intro (λ q. q ≡ withFlow GoOn (run r text s)) (going s) _ _ (λ h. refl) (λ h. absurd (false-true (sym h ∙ g)))
@@ -164,10 +158,15 @@ ignored khmer text unbarred p =
     alike-same text (clusterAsRust khmer text s) (run (cluster khmer) text s)
     (alike-of _ _ _ _ refl (ap (λ r. run r text s) (sym (cluster-tree khmer))) (tree-alike khmer text unbarred clusterTree s refl))
 
--- And without refusal 6 it would push more: a base, CMAbv and a U+034F of class H at the end of the text.
-abbrev barredText : List ℕ
-barredText = packed 0x1780 B 0 0 0 0 0 ∷ packed 0x17C9 CMAbv 0 0 0 0 1 ∷ packed CGJ H 0 0 0 0 2 ∷ []
+-- And without refusal 6 it would push more: the U+034F twice. For the CMAbv run alone every class that refusal 6 bars is needed, and for
+-- the CMBlw run alone every one but CMBlw.
+abbrev Needed : Bool → (List ℕ → Parse → Parse) → ℕ → List ℕ → Type 0
+Needed khmer only kind classes =
+    (ruled khmer kind classes ≡ map (λ _. 3) classes)
+    × (pushes only kind classes ≡ map (λ _. 4) classes)
+    × (pushes (markedSyllableAsRust khmer) kind classes ≡ map (λ _. 4) classes)
 
-pub needed : ((run (cluster false) barredText (begin startPlace Crate true)) .len ≡ 3) × ((clusterAsRust false barredText (begin startPlace Crate true)) .len ≡ 4)
+pub needed : (khmer : Bool) → Needed khmer (onlyAbove khmer) CMAbv (CMBlw ∷ syllableClasses) × Needed khmer (onlyBelow khmer) CMBlw syllableClasses
 unfolding run oneOf thriceOf pushOf noteOf stepOf loop atMost emojis emojiTurn emojiExtension emojiMark newline otherArm given byKind baseVs symbolMarks consonantMarks isCoeng halant opensHalant halantBase isVowelModifier vowelModifier medials vowels finals syllable markedSyllable isSymbolMark standardTail standard halantNumber number symbol letter cluster
-needed = (refl, refl)
+needed false = ((refl, refl, refl), (refl, refl, refl))
+needed true = ((refl, refl, refl), (refl, refl, refl))

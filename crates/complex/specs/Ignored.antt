@@ -3,18 +3,19 @@
 use Prim.Native.Nat.{ℕ, _<_}
 use mathlib.Core.Path.{_≡_}
 use mathlib.Core.Bool.{Bool, true, false, cond}
-use mathlib.Core.List.{List, [], _∷_}
+use mathlib.Core.List.{List, [], _∷_, map}
 use lib.ListN.{length}
 use Rattle.classes.specs.Scalar.{CGJ}
+use Rattle.classes.specs.declared.Mode.the-variants.{Crate}
 use Rattle.classes.specs.declared.Shape.the-variants.{Base, Reph, Vs, Other}
 use Rattle.classes.specs.UseClass.{B, CS, GB, IND, N, O, R, Rsv, S, VS, WJ, CMAbv, CMBlw, SUB, H, FM, FAbv, FBlw, FPst, MAbv, MBlw, MPre, MPst, VAbv, VBlw, VPre, VPst, VMAbv, VMBlw, VMPre, VMPst}
-use Rattle.token.specs.Token.{scalarOf, kindOf}
+use Rattle.token.specs.Token.{scalarOf, kindOf, packed}
 use Rattle.parse.specs.declared.Parse.{Parse}
 use Rattle.parse.specs.declared.Flow.the-variants.{GoOn}
-use Rattle.parse.specs.State.{tokenAt, clusterOf, placeOf, going, withFlow}
+use Rattle.parse.specs.State.{tokenAt, startPlace, clusterOf, placeOf, begin, going, withFlow}
 use Rattle.parse.specs.Rule.{Rule, Test, mark, choose, _▸_, run, holds, take, acceptAs, many, is, isEmoji, oneOf, member, setBroken}
 use Rattle.parse.specs.Shared.{emojis, otherArm}
-use Rattle.complex.specs.Grammar.{byKind, baseVs, symbolMarks, consonantMarks, isSymbolMark, number, symbol, syllable}
+use Rattle.complex.specs.Grammar.{byKind, baseVs, symbolMarks, consonantMarks, isSymbolMark, number, symbol, syllable, cluster}
 
 -- the classes that the tail asks for behind the consonant marks
 abbrev pub syllableClasses : List ℕ
@@ -32,6 +33,13 @@ ignoring r text s = let q = withFlow GoOn (run r text s) in cond (going s) q s
 -- `parse_standard_tail`, where it is no symbol, as the Rust has it
 abbrev pub markedSyllableAsRust : Bool → List ℕ → Parse → Parse
 markedSyllableAsRust khmer text s = run (syllable khmer) text (ignoring (many CMBlw) text (ignoring (many CMAbv) text s))
+
+-- the same with one of the two results heeded
+abbrev pub onlyAbove : Bool → List ℕ → Parse → Parse
+onlyAbove khmer text s = run (syllable khmer) text (run (many CMBlw) text (ignoring (many CMAbv) text s))
+
+abbrev pub onlyBelow : Bool → List ℕ → Parse → Parse
+onlyBelow khmer text s = run (syllable khmer) text (ignoring (many CMBlw) text (run (many CMAbv) text s))
 
 -- What it comes to with refusal 6: where one of the runs has ended, nothing more. The parse goes on still, which a push there, at a
 -- cluster of 32 or at the end of the text, would have ended.
@@ -89,3 +97,16 @@ clusterAsRust khmer = runOf (markedSyllableAsRust khmer) clusterTree
 -- two parses hand back the same: the cluster, and the next place
 abbrev pub Same : List ℕ → Parse → Parse → Type 0
 Same text s q = (clusterOf s ≡ clusterOf q) × (placeOf text s ≡ placeOf text q)
+
+-- What refusal 6 refuses, on its smallest texts: a base, a consonant mark of a kind, and behind it a U+034F of a class, where the text
+-- ends. The run of that kind ends there, and what comes behind the run would ask for the U+034F, which is pushed already.
+abbrev pub barredText : ℕ → ℕ → List ℕ
+barredText kind class = packed 0x1780 B 0 0 0 0 0 ∷ packed 0x17C9 kind 0 0 0 0 1 ∷ packed CGJ class 0 0 0 0 2 ∷ []
+
+-- how many characters a call from the start of such a text pushes, for each class of a list: by the rule, and with another text of that
+-- place
+abbrev pub ruled : Bool → ℕ → List ℕ → List ℕ
+ruled khmer kind classes = map (λ class. (run (cluster khmer) (barredText kind class) (begin startPlace Crate true)) .len) classes
+
+abbrev pub pushes : (List ℕ → Parse → Parse) → ℕ → List ℕ → List ℕ
+pushes f kind classes = map (λ class. (runOf f clusterTree (barredText kind class) (begin startPlace Crate true)) .len) classes

@@ -8,23 +8,28 @@ use lib.Dec.{eqb, ltb}
 use lib.ListN.{length, getD, take, drop, set, length-drop, length-set, drop-of-length-le, List·getD-eq-default}
 use lib.Seq.{take-all}
 use borrow.Author.Tests.{eq-eqb, ne-eqb}
-use Rattle.parse.proofs.Loop.{by-test, if-same}
+use Rattle.parse.proofs.Loop.{if-same}
 use Rattle.cases.specs.declared.numbers.Number.{Number}
 use Rattle.cases.specs.declared.numbers.Number.the-variants.{Value, Nothing}
-use Rattle.cases.specs.Numbers.{numberOf, isNumber}
-use Rattle.cases.specs.Parts.{before, upTo, after}
+use Rattle.cases.specs.Numbers.{numberOf}
+use Rattle.cases.specs.Parts.{before, upTo, after, nextFrom}
+use Rattle.cases.proofs.Splits.{next-after}
 use Rattle.label.specs.declared.texts.Taken.{Taken}
 use Rattle.label.specs.declared.texts.Taken.the-variants.{Scalars, NotNumber}
-use Rattle.label.specs.Numbers.{begins, scalarIn, onward, numbersFrom, allNumbers, countedOf, labelScalars, labelOf}
+use Rattle.label.specs.Numbers.{begins, scalarIn, numbersFrom, allNumbers, countedOf, labelScalars, labelOf}
 use Rattle.label.specs.Utf8.{scalarsFrom, readOf}
 use Rattle.label.proofs.Reading.{Read, Written, read-start, read-next, read-end}
 
+-- what is left behind a word
+left-after : (xs : List ℕ) (at next : ℕ) → next ≡ nextFrom 32 at xs → drop next xs ≡ after 32 (drop at xs)
+left-after xs at next e = rw e (next-after 32 at xs)
+
 -- each word that was read leaves less to read
-pub next-falls : (xs : List ℕ) (at next : ℕ) → at < length xs → drop next xs ≡ after 32 (drop at xs) → length (drop next xs) < length (drop at xs)
+pub next-falls : (xs : List ℕ) (at next : ℕ) → at < length xs → next ≡ nextFrom 32 at xs → length (drop next xs) < length (drop at xs)
 unfolding after
 next-falls xs at next h e =
     let l : length (drop at xs) ≡ length xs - at = length-drop at xs in
-    let m : length (drop next xs) ≡ length (drop at xs) - suc (before 32 (drop at xs)) = ap length e ∙ length-drop _ (drop at xs) in
+    let m : length (drop next xs) ≡ length (drop at xs) - suc (before 32 (drop at xs)) = ap length (left-after xs at next e) ∙ length-drop _ (drop at xs) in
     omega arith
 
 -- a word as the code reads it
@@ -127,9 +132,10 @@ module _ (bytes out₀ out : List ℕ) (at n : ℕ) (g : Counting bytes out₀ o
         let t : allNumbers 0 bytes ≡ false = sym (g .goes) ∙ not-all (drop at bytes) left-some (told Nothing f) in
         (rw (t, w .0), w .1)
 
-    pub counting-more : (x : ℕ) → v ≡ Value x → (next : ℕ) → drop next bytes ≡ after 32 (drop at bytes) → (m : ℕ) (out′ : List ℕ)
+    pub counting-more : (x : ℕ) → v ≡ Value x → (next : ℕ) → next ≡ nextFrom 32 at bytes → (m : ℕ) (out′ : List ℕ)
         → m ≡ cond (ltb n (length out)) (n + 1) n → out′ ≡ set out n x → Counting bytes out₀ out′ next m
-    counting-more x f next en m out′ em eo =
+    counting-more x f next e m out′ em eo =
+        let en : drop next bytes ≡ after 32 (drop at bytes) = left-after bytes at next e in
         let c : numbersFrom 0 (drop at bytes) ≡ x ∷ numbersFrom 0 (drop next bytes) = rw en (next-number (drop at bytes) x left-some (told (Value x) f)) in
         let r : Read (numbersFrom 0 bytes) (x ∷ numbersFrom 0 (drop next bytes)) out n = rw c at (g .read) in
         record {

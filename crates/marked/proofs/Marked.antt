@@ -1,9 +1,10 @@
 -- "The rules' definitions are shown to give these sixteen by one statement over a single table." The checker computes both sides.
 -- Assumes nothing.
+use Prim.Native.Nat.{ℕ}
 use mathlib.Core.Path.{_≡_, refl, sym, _∙_, ap}
-use mathlib.Core.List.{List, [], _∷_, map}
+use mathlib.Core.List.{List, [], _∷_, _++_, map}
 use native.Mathlib.Omega.{arith}
-use lib.ListN.{length}
+use lib.ListN.{length, replicate}
 use Rattle.classes.specs.declared.Mode.{Mode}
 use Rattle.classes.specs.declared.Mode.the-variants.{Crate, Whole}
 use Rattle.records.specs.Text.{Text}
@@ -55,9 +56,9 @@ abbrev later : List (List Outcome) → List (List Outcome)
 later [] = []
 later (o ∷ os) = os
 
--- with their number, so that no row goes unnoticed
-pub marked : (length table ≡ 16) × (map (map given) table ≡ map (map told) table)
-marked = (refl, ap later (computed .0))
+-- with the number of the cases, and of the texts of each, so that none goes unnoticed: P15 and P16 have two
+pub marked : (length table ≡ 16) × ((map {B = ℕ} length table ≡ replicate 14 1 ++ (2 ∷ 2 ∷ [])) × (map (map given) table ≡ map (map told) table))
+marked = (refl, (refl, ap later (computed .0)))
 
 -- and so how document 01 is read where it is open
 pub read : (length readings ≡ 7) × (map given readings ≡ map told readings)

@@ -1,7 +1,7 @@
 -- Conservation: no token is lost and none is made up. A call's characters and notes, read in order, are the tokens from where it began
 -- up to the place that it hands back, and one more where crate mode reads a token twice: repeat (a) at a cluster of 32, repeat (b) at
 -- the end of the text. Assumes nothing.
-use Prim.Native.Nat.{ℕ, _+_, _-_, _<_, _≤_}
+use Prim.Native.Nat.{ℕ, zero, suc, _+_, _-_, _<_, _≤_}
 use mathlib.Core.Path.{_≡_, refl, sym, _∙_, ap, subst}
 use mathlib.Core.Bool.{Bool, true, false, cond}
 use mathlib.Core.List.{List}
@@ -9,7 +9,7 @@ use mathlib.Core.Logic.{_⊎_, inl, inr}
 use native.Mathlib.Omega.{arith}
 use borrow.Author.Tests.{lt-ltb, ltb-true, ltb-false}
 use lib.Dec.{ltb}
-use lib.ListN.{length, set, getD, length-set}
+use lib.ListN.{length, take, set, getD, length-set}
 use lib.Seq.{length-take-le, getD-set-same}
 use Rattle.classes.specs.declared.Shape.{Shape}
 use Rattle.classes.specs.declared.Shape.the-variants.{Other}
@@ -20,13 +20,13 @@ use Rattle.classes.specs.declared.Mode.{Mode}
 use Rattle.classes.specs.declared.Mode.the-variants.{Crate, Whole}
 use Rattle.parse.specs.declared.Flow.{Flow}
 use Rattle.parse.specs.declared.Flow.the-variants.{GoOn, Stop, Full, End}
-use Rattle.parse.specs.State.{tokenAt, filledAt, placeOf, begin, nothing, isGoing, going, withFlow, withAgain, charOf, putOf, notedMore, notedOf, movedOf, goOn, resumedOf, passesEnd, retriedOf}
+use Rattle.parse.specs.State.{tokenAt, filledAt, placeOf, clusterOf, begin, nothing, isGoing, going, withFlow, withAgain, charOf, putOf, notedMore, notedOf, movedOf, goOn, resumedOf, passesEnd, retriedOf}
 use Rattle.parse.specs.Rule.{Rule, run}
-use Rattle.parse.specs.Cover.{look, IsOf, Covers, pushed, notes, repeatsOf, repeats, once}
+use Rattle.parse.specs.Cover.{look, IsOf, Covers, pushed, butLast, Repeating, notes, repeatsOf, repeats}
 use Rattle.parse.proofs.Loop.{false-true, if-intro, by-test}
 use Rattle.parse.proofs.Moves.{moved-case}
 use Rattle.parse.proofs.Keeps.{Keeps, run-keeps, run-at, run-mode, place-in}
-use Rattle.parse.proofs.Covered.{cover-count, cover-same, cover-struck, cells-put, cells-note}
+use Rattle.parse.proofs.Covered.{cover-count, cover-same, cells-put, cells-note, cells-last}
 
 -- a stop in it ends a part alone, so the parse may go on
 abbrev isOpen : Flow → Bool
@@ -231,7 +231,7 @@ repeats-most Crate End true = omega arith
 repeats-most Crate End false = omega arith
 
 -- where a token is read twice, the cluster is full or the text has ended
-full-repeat : (text : List ℕ) (start : ℕ) (s : Parse) → Kept text start s → repeats s ≡ 1 → s .again ≡ false → (s .len ≡ 32) × (s .at < length text) × IsOf (getD (s .chars) (s .len - 1) nothing) (tokenAt text (s .at)) × (s .done ≡ false)
+full-repeat : (text : List ℕ) (start : ℕ) (s : Parse) → Kept text start s → repeats s ≡ 1 → s .again ≡ false → (s .len ≡ 32) × (s .at < length text) × ((getD (s .chars) (s .len - 1) nothing) .noted ≡ 0) × (s .done ≡ false)
 full-repeat text start s (cells, inl o) e n = let z = repeats-open (s .mode) (s .flow) (s .again) (o .0) in absurd (omega arith)
 full-repeat text start s (cells, inr (inl (f, d, i, l, c, r))) e n =
     let z : repeats s ≡ cond (s .again) 1 0 = ap (λ k. repeatsOf (s .mode) k (s .again)) f ∙ repeats-end (s .mode) (s .again) c in
@@ -239,7 +239,13 @@ full-repeat text start s (cells, inr (inl (f, d, i, l, c, r))) e n =
     absurd (omega arith)
 full-repeat text start s (cells, inr (inr (f, l, a, c, r))) e n =
     let k = c (crate-full (s .mode) (s .again) (ap (λ q. repeatsOf (s .mode) q (s .again)) (sym f) ∙ e)) in
-    (omega (arith, cells .1), k .0, k .1 .0, sym a ∙ n)
+    (omega (arith, cells .1), k .0, k .1 .1, sym a ∙ n)
+
+-- and in crate mode a full cluster does
+full-repeats : (text : List ℕ) (start : ℕ) (s : Parse) → Kept text start s → s .mode ≡ Crate → s .len ≡ 32 → repeats s ≡ 1
+full-repeats text start s (cells, inl o) m l = absurd (omega (arith, o .1))
+full-repeats text start s (cells, inr (inl e)) m l = absurd (omega (arith, e .3))
+full-repeats text start s (cells, inr (inr f)) m l = rw (m, f .0)
 
 end-repeat : (text : List ℕ) (start : ℕ) (s : Parse) → Kept text start s → repeats s ≡ 1 → s .again ≡ true → s .done ≡ true
 end-repeat text start s (cells, inl o) e h = let z = repeats-open (s .mode) (s .flow) (s .again) (o .0) in absurd (omega arith)
@@ -267,40 +273,54 @@ module _ (text : List ℕ) (short : length text ≤ 65535) (r : Rule) (p : Place
   in-text cs c = cover-same (look text) (tokenAt text) (length text) (look-in text) cs (p .at) (placeOf text result)
       (place-in r text (begin p m j) (omega arith)) c
 
-  -- In both modes, once the repeat is struck out: exactly the tokens from the start place to the place handed back.
-  pub conserve-once : Covers (tokenAt text) (p .at) (once result) (placeOf text result)
-  conserve-once = in-text (once result) (if-intro (λ cs. Covers (look text) (p .at) cs (placeOf text result)) (ltb 0 (repeats result)) _ _
-      (λ h. let e : placeOf text result + repeats result ≡ placeOf text result + 1 = omega (arith, ltb-true 0 (repeats result) h, repeats-most (result .mode) (result .flow) (result .again)) in
-      cover-struck (look text) (pushed result) (p .at) (placeOf text result) forward (subst (Covers (look text) (p .at) (pushed result)) e conserve))
-      (λ h. let e : placeOf text result + repeats result ≡ placeOf text result = omega (arith, ltb-false 0 (repeats result) h) in
-      subst (Covers (look text) (p .at) (pushed result)) e conserve))
-
-  -- In whole mode no token is read twice: the cluster is exactly the tokens from the start place to the place handed back.
-  pub whole-conserves : m ≡ Whole → Covers (tokenAt text) (p .at) (pushed result) (placeOf text result)
-  whole-conserves w =
-      let z : repeats result ≡ 0 = ap (λ k. repeatsOf k (result .flow) (result .again)) (run-mode r text (begin p m j) ∙ w) in
+  -- Where no token is read twice the cluster is exactly the tokens from the start place to the place handed back.
+  pub conserve-once : repeats result ≡ 0 → Covers (tokenAt text) (p .at) (pushed result) (placeOf text result)
+  conserve-once z =
       let e : placeOf text result + repeats result ≡ placeOf text result = omega arith in
       in-text (pushed result) (subst (Covers (look text) (p .at) (pushed result)) e conserve)
+
+  -- So it is in whole mode.
+  pub repeats-whole : m ≡ Whole → repeats result ≡ 0
+  repeats-whole w = ap (λ k. repeatsOf k (result .flow) (result .again)) (run-mode r text (begin p m j) ∙ w)
 
   -- A call repeats one token at most.
   pub repeats-once : repeats result ≤ 1
   repeats-once = repeats-most (result .mode) (result .flow) (result .again)
 
+  -- In crate mode a cluster of 32 repeats one.
+  pub repeats-full : m ≡ Crate → result .len ≡ 32 → repeats result ≡ 1
+  repeats-full c l = full-repeats text (p .at) result call-kept (run-mode r text (begin p m j) ∙ c) l
+
+  -- Where a token is repeated, and the last character has no note, that character is the repeat: the others are exactly the tokens from
+  -- the start place to the place handed back.
+  repeating : repeats result ≡ 1 → (getD (result .chars) (result .len - 1) nothing) .noted ≡ 0 → Repeating text (p .at) (clusterOf result) (placeOf text result) (look text (placeOf text result))
+  repeating e z =
+      let c = rw e at conserve in
+      let some : 0 < result .len = go (result .len) c in
+      let k = cells-last (look text) (result .chars) (result .len) (p .at) (placeOf text result) (call-kept .0 .0) some (call-kept .0 .1) c z in
+      record { once = in-text (butLast (clusterOf result)) (k .0); last = k .1; bare = z }
+    where
+      go : (n : ℕ) → Covers (look text) (p .at) (take n (result .chars)) (placeOf text result + 1) → 0 < n
+      go zero c = absurd (omega (arith, forward, c))
+      go (suc n) c = omega arith
+
   -- Repeat (a): "if a cluster has 32 and another follows, the other begins with the same token". The cluster has 32, and its last
-  -- character is the token at the place handed back.
-  pub repeat-a : repeats result ≡ 1 → result .again ≡ false → (result .len ≡ 32) × (placeOf text result < length text) × IsOf (getD (result .chars) 31 nothing) (tokenAt text (placeOf text result))
+  -- character is the token at the place handed back, which is before the end.
+  pub repeat-a : repeats result ≡ 1 → result .again ≡ false → (result .len ≡ 32) × (placeOf text result < length text) × Repeating text (p .at) (clusterOf result) (placeOf text result) (tokenAt text (placeOf text result))
   repeat-a e n =
       let k = full-repeat text (p .at) result call-kept e n in
-      let z : result .len - 1 ≡ 31 = omega (arith, k .0) in
-      rw (k .3) (k .0, k .1, rw z at (k .2))
+      let i : placeOf text result < length text = rw (k .3) (k .1) in
+      (k .0, i, subst (Repeating text (p .at) (clusterOf result) (placeOf text result)) (look-in text (placeOf text result) i) (repeating e (k .2)))
 
-  -- Repeat (b): "the last token is pushed again in the same cluster, and the next place is the end". The cluster goes on past the end
-  -- of the text by one token, which is the text's last, a second time.
-  pub repeat-b : repeats result ≡ 1 → result .again ≡ true → (placeOf text result ≡ length text) × Covers (look text) (p .at) (pushed result) (length text + 1) × (look text (length text) ≡ look text (length text - 1))
-  repeat-b e h =
-      let z : placeOf text result ≡ length text = rw (end-repeat text (p .at) result call-kept e h) in
-      let y : placeOf text result + repeats result ≡ length text + 1 = omega arith in
-      (z, subst (Covers (look text) (p .at) (pushed result)) y conserve, ap (tokenAt text) (omega arith))
+  ended : repeats result ≡ 1 → result .again ≡ true → placeOf text result ≡ length text
+  ended e h = rw (end-repeat text (p .at) result call-kept e h)
+
+  -- Repeat (b): "the last token is pushed again in the same cluster, and the next place is the end".
+  pub repeat-b : repeats result ≡ 1 → result .again ≡ true → (getD (result .chars) (result .len - 1) nothing) .noted ≡ 0 → (placeOf text result ≡ length text) × Repeating text (p .at) (clusterOf result) (length text) (tokenAt text (length text - 1))
+  repeat-b e h z =
+      let d : placeOf text result ≡ length text = ended e h in
+      let l : look text (length text) ≡ tokenAt text (length text - 1) = ap (tokenAt text) (omega arith) in
+      (d, subst (Repeating text (p .at) (clusterOf result) (length text)) l (subst (λ i. Repeating text (p .at) (clusterOf result) i (look text i)) d (repeating e z)))
 
   counted : p .at + (result .len + notes (pushed result)) ≡ placeOf text result + repeats result
   counted =
@@ -315,7 +335,7 @@ module _ (text : List ℕ) (short : length text ≤ 65535) (r : Rule) (p : Place
   pub passes : 0 < result .len → p .at < placeOf text result
   passes h = by-test (ltb 0 (repeats result))
       (λ k. let e : repeats result ≡ 1 = omega (arith, ltb-true 0 (repeats result) k, repeats-once) in by-test (result .again)
-      (λ a. omega (arith, repeat-b e a .0, inside)) (λ a. omega (arith, repeat-a e a .0, counted, e)))
+      (λ a. omega (arith, ended e a, inside)) (λ a. omega (arith, repeat-a e a .0, counted, e)))
       (λ k. omega (arith, ltb-false 0 (repeats result) k, counted))
 
 -- Where crate mode reads a token twice, whole mode hands back another cluster or another place.
@@ -323,7 +343,7 @@ pub modes-differ : (text : List ℕ) → length text ≤ 65535 → (r : Rule) (p
 modes-differ text short r p j inside e same place =
     let c = run r text (begin p Crate j) in
     let w = run r text (begin p Whole j) in
-    let z : repeats w ≡ 0 = ap (λ k. repeatsOf k (w .flow) (w .again)) (run-mode r text (begin p Whole j)) in
+    let z : repeats w ≡ 0 = repeats-whole text short r p Whole j inside refl in
     let n : length (pushed c) + notes (pushed c) ≡ length (pushed w) + notes (pushed w) = ap (λ cs. length cs + notes cs) same in
     omega (
       arith,

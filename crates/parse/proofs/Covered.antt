@@ -1,18 +1,16 @@
--- Covers, one character and one note at a time: what a push and a note add to it, how many tokens it counts, and what is left where
--- the last thing is struck out. Assumes nothing.
+-- Covers, one character and one note at a time: what a push and a note add to it, how many tokens it counts, and what is left without
+-- the last character. Assumes nothing.
 use Prim.Native.Nat.{ℕ, suc, _+_, _-_, _<_, _≤_}
 use mathlib.Core.Path.{_≡_}
 use mathlib.Core.List.{List, [], _∷_, _++_}
 use native.Mathlib.Omega.{arith}
 use native.Mathlib.Numerals.{add-one}
-use borrow.Author.Tests.{lt-ltb, ltb-true, ltb-false}
-use lib.Dec.{ltb}
+use borrow.Author.Tests.{lt-ltb}
 use lib.ListN.{length, take, set, getD}
 use lib.Seq.{take-suc, take-suc-set}
 use Rattle.parse.specs.declared.Pushed.{Pushed}
 use Rattle.parse.specs.State.{notedMore, nothing}
-use Rattle.parse.specs.Cover.{IsOf, Covers, notes, struck}
-use Rattle.parse.proofs.Loop.{if-intro}
+use Rattle.parse.specs.Cover.{IsOf, Covers, notes}
 
 cover-snoc : (look : ℕ → ℕ) (cs : List Pushed) (from to : ℕ) (x : Pushed) → Covers look from cs to → IsOf x (look to) → x .noted ≡ 0 → Covers look from (cs ++ (x ∷ [])) (to + 1)
 cover-snoc look [] from to x e i z = (rw e i, rw (e, z) (omega arith))
@@ -33,13 +31,10 @@ cover-same f g n same [] from to h e = e
 cover-same f g n same (c ∷ cs) from to h e =
     (rw (same from (omega (arith, cover-count f cs (from + 1 + c .noted) to (e .1)))) at (e .0), cover-same f g n same cs (from + 1 + c .noted) to h (e .1))
 
--- the last thing struck out, one token less
-pub cover-struck : (look : ℕ → ℕ) (cs : List Pushed) (from to : ℕ) → from ≤ to → Covers look from cs (to + 1) → Covers look from (struck cs) to
-cover-struck look [] from to h e = absurd (omega arith)
-cover-struck look (c ∷ []) from to h e = if-intro (λ cs. Covers look from cs to) (ltb 0 (c .noted)) _ _
-    (λ n. (e .0, omega (arith, ltb-true 0 (c .noted) n, e .1))) (λ n. omega (arith, ltb-false 0 (c .noted) n, e .1))
-cover-struck look (c ∷ d ∷ cs) from to h e =
-    (e .0, cover-struck look (d ∷ cs) (from + 1 + c .noted) to (omega (arith, cover-count look (d ∷ cs) (from + 1 + c .noted) (to + 1) (e .1))) (e .1))
+-- the last character taken off, which has no note
+cover-unsnoc : (look : ℕ → ℕ) (cs : List Pushed) (from to : ℕ) (x : Pushed) → Covers look from (cs ++ (x ∷ [])) (to + 1) → x .noted ≡ 0 → Covers look from cs to × IsOf x (look to)
+cover-unsnoc look [] from to x e z = let h : from ≡ to = omega (arith, e .1) in (h, rw (← h) (e .0))
+cover-unsnoc look (c ∷ cs) from to x e z = let k = cover-unsnoc look cs (from + 1 + c .noted) to x (e .1) z in ((e .0, k .0), k .1)
 
 -- the same of a cluster of n characters in 32 cells
 module _ (look : ℕ → ℕ) (cells : List Pushed) (n from to : ℕ) (full : length cells ≡ 32) where
@@ -54,3 +49,9 @@ module _ (look : ℕ → ℕ) (cells : List Pushed) (n from to : ℕ) (full : le
 
   pub cells-note : 0 < n → n ≤ 32 → Covers look from (take n cells) to → to ≤ 65535 → Covers look from (take n (set cells (n - 1) (notedMore (getD cells (n - 1) nothing)))) (to + 1)
   cells-note p h c b = cells-noted (n - 1) (omega arith) (omega arith) c b
+
+  cells-taken : (k : ℕ) → n ≡ suc k → k < 32 → Covers look from (take n cells) (to + 1) → (getD cells k nothing) .noted ≡ 0 → Covers look from (take k cells) to × IsOf (getD cells k nothing) (look to)
+  cells-taken k e h c z = cover-unsnoc look (take k cells) from to (getD cells k nothing) (rw (e, take-suc cells k nothing (omega (arith, full))) at c) z
+
+  pub cells-last : 0 < n → n ≤ 32 → Covers look from (take n cells) (to + 1) → (getD cells (n - 1) nothing) .noted ≡ 0 → Covers look from (take (n - 1) cells) to × IsOf (getD cells (n - 1) nothing) (look to)
+  cells-last p h c z = cells-taken (n - 1) (omega arith) (omega arith) c z

@@ -96,6 +96,15 @@ plain-keeps text I k = record {
   retried = λ s i. if-intro I (passesEnd (s .mode) (s .flow) (s .again)) _ _ (λ h. k .flow GoOn (withAgain s) (k .again s i)) (λ h. i);
 }
 
+same-mode : (text : List ℕ) (s : Parse) → Keeps text (λ q. q .mode ≡ s .mode) (λ q. q .mode ≡ s .mode)
+same-mode text s = plain-keeps text (λ q. q .mode ≡ s .mode) (record {
+  cells = λ n cs q i. i;
+  info = λ j q i. i;
+  flow = λ f q i. i;
+  again = λ q i. i;
+  moved = λ q i. moved-case (λ u. u .mode ≡ s .mode) (length text) q (λ l h. i) (λ l h. i) (λ l. i);
+})
+
 module _ (r : Rule) (text : List ℕ) (s : Parse) where
   -- the place never goes back
   pub run-at : s .at ≤ (run r text s) .at
@@ -111,15 +120,11 @@ module _ (r : Rule) (text : List ℕ) (s : Parse) where
 
   -- the mode stays
   pub run-mode : (run r text s) .mode ≡ s .mode
-  run-mode = run-keeps text (λ q. q .mode ≡ s .mode) (λ q. q .mode ≡ s .mode)
-      (plain-keeps text (λ q. q .mode ≡ s .mode) (record {
-        cells = λ n cs q i. i;
-        info = λ j q i. i;
-        flow = λ f q i. i;
-        again = λ q i. i;
-        moved = λ q i. moved-case (λ u. u .mode ≡ s .mode) (length text) q (λ l h. i) (λ l h. i) (λ l. i);
-      }))
-      r s refl
+  run-mode = run-keeps text (λ q. q .mode ≡ s .mode) (λ q. q .mode ≡ s .mode) (same-mode text s) r s refl
+
+-- also within a kinzi
+pub thrice-mode : (text : List ℕ) (c : Shape) (s : Parse) → (thriceOf text c s) .mode ≡ s .mode
+thrice-mode text c s = thrice-keeps text (λ q. q .mode ≡ s .mode) (λ q. q .mode ≡ s .mode) (same-mode text s) c s refl
 
 place-within : (n i : ℕ) → i ≤ n → placeAfter n i ≤ n
 place-within n i h = if-intro (λ k. k ≤ n) (ltb i n) _ _ (λ e. omega (arith, ltb-true i n e)) (λ e. h)

@@ -1,5 +1,6 @@
 pub mod Loop
 pub mod Moves
+pub mod Steps
 pub mod Keeps
 pub mod Runs
 pub mod Rules
@@ -7,3 +8,4 @@ pub mod Covered
 pub mod Conserve
 pub mod Agree
 pub mod Fills
+pub mod Free

@@ -3,16 +3,16 @@ use Prim.Native.Nat.{ℕ, _+_, _-_, min}
 use mathlib.Core.Path.{_≡_}
 use mathlib.Core.Bool.{Bool, cond}
 use mathlib.Core.List.{List, [], _∷_}
-use lib.Dec.{ltb}
-use lib.ListN.{length, take}
+use lib.ListN.{length, take, getD}
 use Rattle.token.specs.Token.{scalarOf, indexOf}
 use Rattle.parse.specs.declared.Parse.{Parse}
 use Rattle.parse.specs.declared.Pushed.{Pushed}
+use Rattle.parse.specs.declared.Cluster.{Cluster}
 use Rattle.classes.specs.declared.Mode.{Mode}
 use Rattle.classes.specs.declared.Mode.the-variants.{Crate, Whole}
 use Rattle.parse.specs.declared.Flow.{Flow}
 use Rattle.parse.specs.declared.Flow.the-variants.{GoOn, Stop, Full, End}
-use Rattle.parse.specs.State.{tokenAt}
+use Rattle.parse.specs.State.{tokenAt, nothing}
 
 -- the stream with its last token repeated
 abbrev pub look : List ℕ → ℕ → ℕ
@@ -31,6 +31,23 @@ Covers look from (c ∷ cs) to = IsOf c (look from) × Covers look (from + 1 + c
 abbrev pub pushed : Parse → List Pushed
 pushed s = take (s .len) (s .chars)
 
+-- the characters of a cluster, all but the last of them, and the last
+abbrev pub charactersOf : Cluster → List Pushed
+charactersOf c = take (c .len) (c .chars)
+
+abbrev pub butLast : Cluster → List Pushed
+butLast c = take (c .len - 1) (c .chars)
+
+abbrev pub lastOf : Cluster → Pushed
+lastOf c = getD (c .chars) (c .len - 1) nothing
+
+-- a cluster that repeats a token: the characters but the last are the tokens from one place up to another, and the last one, with no note
+-- behind it, is the token that is repeated
+pub record Repeating (text : List ℕ) (from : ℕ) (c : Cluster) (to : ℕ) (repeated : ℕ) : Type 0 where
+  pub once : Covers (tokenAt text) from (butLast c) to
+  pub last : IsOf (lastOf c) repeated
+  pub bare : (lastOf c) .noted ≡ 0
+
 -- how many tokens are noted after them
 abbrev pub notes : List Pushed → ℕ
 notes [] = 0
@@ -46,13 +63,3 @@ repeatsOf Crate End again = cond again 1 0
 
 abbrev pub repeats : Parse → ℕ
 repeats s = repeatsOf (s .mode) (s .flow) (s .again)
-
--- the last thing struck out: a note, or a character that has none
-abbrev pub struck : List Pushed → List Pushed
-struck [] = []
-struck (c ∷ []) = cond (ltb 0 (c .noted)) (record { scalar = c .scalar; index = c .index; noted = c .noted - 1; class = c .class } ∷ []) []
-struck (c ∷ d ∷ cs) = c ∷ struck (d ∷ cs)
-
--- the characters without the repeat
-abbrev pub once : Parse → List Pushed
-once s = cond (ltb 0 (repeats s)) (struck (pushed s)) (pushed s)

@@ -2,13 +2,14 @@
 -- record is in. Assumes nothing.
 use Prim.Native.Nat.{ℕ, zero, suc, _+_, _-_, _<_, _≤_}
 use mathlib.Core.Path.{_≡_, refl, sym, _∙_, ap, subst}
-use mathlib.Core.Bool.{true, cond}
+use mathlib.Core.Bool.{true, false}
 use mathlib.Core.List.{List, [], _∷_, _++_, map}
 use native.Mathlib.Omega.{arith}
 use lib.Dec.{ltb}
 use lib.ListN.{length, take}
-use borrow.Author.Tests.{ltb-true}
+use borrow.Author.Tests.{ltb-true, ne-eqb}
 use Rattle.classes.specs.declared.Mode.{Mode}
+use Rattle.classes.specs.declared.Mode.the-variants.{Crate, Whole}
 use Rattle.records.specs.Text.{Text}
 use Rattle.records.specs.Refusals.{verdict}
 use Rattle.records.specs.declared.Parser.the-variants.{Simple}
@@ -17,24 +18,27 @@ use Rattle.token.specs.Token.{indexOf}
 use Rattle.tokens.specs.Tokens.{streamOf}
 use Rattle.parse.specs.declared.Parse.{Parse}
 use Rattle.parse.specs.declared.Pushed.{Pushed}
-use Rattle.parse.specs.State.{tokenAt, placeOf}
-use Rattle.parse.specs.Cover.{Covers, pushed, struck, repeats}
+use Rattle.parse.specs.declared.Cluster.{Cluster}
+use Rattle.parse.specs.State.{tokenAt, placeOf, clusterOf}
+use Rattle.parse.specs.Cover.{Covers, pushed}
 use Rattle.parse.proofs.Loop.{by-test}
 use Rattle.parse.proofs.Covered.{cover-count}
 use Rattle.segment.specs.Calls.{called}
 use Rattle.segment.specs.Runs.{callsFrom, columnOf, clusterIn, RanOf}
+use Rattle.segment.specs.Repeats.{repeated}
 use Rattle.segment.specs.declared.RunAnswer.{RunAnswer}
 use Rattle.segment.proofs.Progress.{progress}
 use Rattle.segment.proofs.Turns.{call-within}
 use Rattle.segment.proofs.Laws.{accepted-short}
-use Rattle.segment.proofs.Demands.{call-once, run-writes}
+use Rattle.segment.proofs.Repeats.{call-once}
+use Rattle.segment.proofs.Demands.{run-writes}
 use Rattle.plain.specs.Clusters.{boundaryAt}
 use Rattle.plaintexts.specs.Clusters.{plainAt, every, allShort, isPlain, simpleCalls, numberAt, numbersOf}
 use Rattle.plaintexts.proofs.Tests.{and-both}
 use Rattle.plaintexts.proofs.ClustersNeighbours.{Columns}
 use Rattle.plaintexts.proofs.ClustersAfter.{Joined}
 use Rattle.plaintexts.proofs.ClustersCall.{Shows}
-use Rattle.plaintexts.proofs.ClustersPlain.{stream-length, stream-shows, stream-index, plain-columns, starts-at-0, call-plain, call-once-only, calls-more, calls-none, calls-over}
+use Rattle.plaintexts.proofs.ClustersPlain.{stream-length, stream-shows, stream-index, plain-columns, starts-at-0, call-plain, calls-more, calls-none, calls-over}
 
 module _ (breaks marks : List ℕ) where
   -- where no boundary stands the number stays
@@ -74,11 +78,13 @@ same-numbers look number k (c ∷ cs) from to e f =
     ∙ ap (λ xs. number (c .index) ∷ xs) (same-numbers look number k cs (from + 1 + c .noted) to (e .1) (λ j l h. f j (omega arith) h))
 
 module _ (mode : Mode) (stream breaks marks : List ℕ) (short : length stream ≤ 65535) (shows : Shows stream breaks marks) (plain : Columns breaks marks) (index : (i : ℕ) → i < length stream → indexOf (tokenAt stream i) ≡ i) where
-  -- the characters of a call that repeats none
-  covers : (at : ℕ) → at < length stream → repeats (called Simple mode stream at) ≡ 0 → Covers (tokenAt stream) at (pushed (called Simple mode stream at)) (placeOf stream (called Simple mode stream at))
-  covers at i z =
-      let p : Parse = called Simple mode stream at in
-      subst (λ cs. Covers (tokenAt stream) at cs (placeOf stream p)) (ap (λ r. cond (ltb 0 r) (struck (pushed p)) (pushed p)) z) (call-once Simple mode stream short at i)
+  -- a cluster of fewer than 32 repeats no token, so its characters are the tokens of its call
+  covers : (at : ℕ) → at < length stream → (called Simple mode stream at) .len < 32 → Covers (tokenAt stream) at (pushed (called Simple mode stream at)) (placeOf stream (called Simple mode stream at))
+  covers at i small = call-once Simple stream short at i mode (none mode (clusterOf (called Simple mode stream at)) small)
+    where
+      none : (m : Mode) (c : Cluster) → c .len < 32 → repeated m Simple stream at c ≡ false
+      none Crate c h = ne-eqb (c .len) 32 (λ e. absurd (omega arith))
+      none Whole c h = refl
 
   numbers-are : (n at k : ℕ) → (at < length stream → (boundaryAt breaks marks at ≡ true) × (numberAt breaks marks at ≡ k)) → allShort (callsFrom Simple mode stream n at) ≡ true → columnOf clusterIn k (callsFrom Simple mode stream n at) ≡ numbersOf breaks marks (callsFrom Simple mode stream n at)
   unfolding columnOf numbersOf allShort
@@ -95,7 +101,7 @@ module _ (mode : Mode) (stream breaks marks : List ℕ) (short : length stream �
       let within : to ≤ length stream = call-within Simple mode stream short at i in
       let these : map (clusterIn k) (pushed p) ≡ map (λ (c : Pushed). numberAt breaks marks (c .index)) (pushed p) =
       same-numbers (tokenAt stream) (numberAt breaks marks) k (pushed p) at to
-      (covers at i (call-once-only mode stream breaks marks short shows plain at i (s i .0) small))
+      (covers at i small)
       (λ j l h. (index j (omega arith), number-within breaks marks at to passes (ends .0) j l h ∙ s i .1)) in
       let those : columnOf clusterIn (k + 1) (callsFrom Simple mode stream n to) ≡ numbersOf breaks marks (callsFrom Simple mode stream n to) =
       numbers-are n to (k + 1) (λ h. (ends .1 h, number-after breaks marks at to passes (ends .0) (ends .1 h) ∙ ap (λ x. x + 1) (s i .1))) (less .1) in

@@ -11,7 +11,6 @@ use lib.ListN.{length, drop, getD}
 use borrow.Author.Tests.{eqb-true, ltb-true, ltb-false, le-ltb}
 use Rattle.classes.specs.ClusterBreak.{XX}
 use Rattle.classes.specs.declared.Mode.{Mode}
-use Rattle.classes.specs.declared.Mode.the-variants.{Crate, Whole}
 use Rattle.records.specs.Text.{Text, cell, recordLengths}
 use Rattle.records.specs.Refusals.{member, uneven, verdict}
 use Rattle.records.specs.Refusals as Refusals
@@ -25,9 +24,7 @@ use Rattle.tokens.specs.Tokens.{Source, sourceOf, ownToken, itself, gather, str
 use Rattle.tokens.proofs.Accepted.{simple-says}
 use Rattle.tokens.proofs.Stream.{length-records}
 use Rattle.parse.specs.declared.Parse.{Parse}
-use Rattle.parse.specs.declared.Flow.the-variants.{GoOn, End}
 use Rattle.parse.specs.State.{tokenAt, placeOf}
-use Rattle.parse.specs.Cover.{repeatsOf, repeats}
 use Rattle.parse.proofs.Loop.{false-true, by-test}
 use Rattle.simple.specs.Grammar.{isExtension}
 use Rattle.segment.specs.Calls.{grammar, called}
@@ -141,21 +138,6 @@ module _ (mode : Mode) (stream breaks marks : List ℕ) (short : length stream �
   abbrev Ends : ℕ → ℕ → Type 0
   Ends from to = Joined b from to × (to < length stream → b to ≡ true)
 
-  -- and repeats no token
-  no-repeat : (from : ℕ) (Q : ℕ → Type 0) (p : Parse) → After stream b from Q Nowhere p → p .len < 32 → repeats p ≡ 0
-  no-repeat from Q p (full l) h = absurd (omega arith)
-  no-repeat from Q p (over o) h = ap (λ f. repeatsOf (p .mode) f (p .again)) (o .flow) ∙ ap (repeatsOf (p .mode) End) (o .again) ∙ go (p .mode)
-    where
-      go : (m : Mode) → repeatsOf m End false ≡ 0
-      go Crate = refl
-      go Whole = refl
-  no-repeat from Q p (halted st x) h = absurd x
-  no-repeat from Q p (goes st x) h = ap (λ f. repeatsOf (p .mode) f (p .again)) (st .flow) ∙ go (p .mode)
-    where
-      go : (m : Mode) → repeatsOf m GoOn (p .again) ≡ 0
-      go Crate = refl
-      go Whole = refl
-
   module _ (from : ℕ) (inside : from < length stream) (starts : b from ≡ true) where
     parts-at : (j : ℕ) → from < j → j < length stream → Calm breaks marks j → isExtension stream j ≡ false → b j ≡ true
     parts-at zero l h c x = absurd (omega arith)
@@ -175,10 +157,6 @@ module _ (mode : Mode) (stream breaks marks : List ℕ) (short : length stream �
     pub call-plain : (called Simple mode stream from) .len < 32 → Ends from (placeOf stream (called Simple mode stream from))
     unfolding called grammar
     call-plain h = ends-at (called Simple mode stream from) (call-after stream breaks marks shows plain from inside starts mode) h (progress Simple mode stream short from inside)
-
-    pub call-once-only : (called Simple mode stream from) .len < 32 → repeats (called Simple mode stream from) ≡ 0
-    unfolding called grammar
-    call-once-only h = no-repeat from _ (called Simple mode stream from) (call-after stream breaks marks shows plain from inside starts mode) h
 
 -- # All calls
 

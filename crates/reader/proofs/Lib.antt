@@ -3,4 +3,5 @@ pub mod Held
 pub mod Left
 pub mod Locals
 pub mod Stands
+pub mod Unique
 pub mod Walk

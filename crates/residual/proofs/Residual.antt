@@ -8,17 +8,17 @@ use native.Mathlib.Omega.{arith}
 use lib.ListN.{length}
 use Rattle.classes.specs.declared.Shape.{Shape}
 use Rattle.classes.specs.declared.Shape.the-variants.{Other}
-use Rattle.classes.specs.declared.Mode.{Mode}
 use Rattle.classes.specs.declared.Mode.the-variants.{Whole}
 use Rattle.parse.specs.declared.Parse.{Parse}
 use Rattle.parse.specs.declared.Info.{Info}
-use Rattle.parse.specs.declared.Flow.{Flow}
-use Rattle.parse.specs.declared.Flow.the-variants.{GoOn, Stop, Full, End}
-use Rattle.parse.specs.State.{tokenAt, isGoing, going, withFlow, withInfo, withAgain, turns, putOf, notedOf, movedOf, onJoiner, hop, stepOf, pushOf, noteOf, goOn, passesEnd, resumedOf, retriedOf}
+use Rattle.parse.specs.declared.Flow.the-variants.{GoOn, Stop}
+use Rattle.parse.specs.State.{tokenAt, going, withFlow, withInfo, withAgain, turns, putOf, notedOf, movedOf, onJoiner, hop, stepOf, pushOf, noteOf, goOn, passesEnd, resumedOf, retriedOf}
 use Rattle.parse.specs.Rule.{Test, Rule, skip, stop, push, note, mark, seq, choose, while, part, thrice, run, holds, take, thriceOf}
 use Rattle.parse.proofs.Loop.{false-true, if-intro, by-test, both, loop-keeps}
 use Rattle.parse.proofs.Moves.{moved-case, put-same, noted-same}
-use Rattle.parse.proofs.Keeps.{thrice-keeps, plain-keeps}
+use Rattle.parse.proofs.Keeps.{thrice-mode}
+use Rattle.parse.proofs.Steps.{going-flow}
+use Rattle.parse.proofs.Free.{free}
 use Rattle.parse.proofs.Runs.{run-still, run-goes, run-stays, run-falls, moves}
 
 -- what is done with the current token
@@ -117,12 +117,6 @@ run-join (choose p a c) b text s = refl
 run-join (while p a) b text s = refl
 run-join (part a) b text s = refl
 run-join (thrice c) b text s = refl
-
-pub going-flow : (f : Flow) → isGoing f ≡ true → f ≡ GoOn
-going-flow GoOn g = refl
-going-flow Stop g = absurd (false-true g)
-going-flow Full g = absurd (false-true g)
-going-flow End g = absurd (false-true g)
 
 resume-same : (s : Parse) → goOn (s .flow) ≡ s .flow → resumedOf s ≡ s
 resume-same s e = ap (λ f. withFlow f s) e
@@ -225,19 +219,7 @@ calm-marked text ask s m (while p a) c = calm-marked text ask s m a c
 calm-marked text ask s m (part a) c = calm-marked text ask s m a c
 calm-marked text ask s m (thrice x) c = λ u. c (λ t i. u t (m t i))
 
--- a rule with no kinzi in it
-abbrev pub free : Rule → Bool
-free skip = true
-free stop = true
-free (push f) = true
-free note = true
-free (mark f) = true
-free (seq a b) = cond (free a) (free b) false
-free (choose p a b) = cond (free a) (free b) false
-free (while p a) = free a
-free (part a) = free a
-free (thrice c) = false
-
+-- a rule with no kinzi in it is calm
 pub calm-free : (text : List ℕ) (ask : Test → Bool) (s : Parse) (r : Rule) → free r ≡ true → Calm text ask s r
 unfolding Calm
 calm-free text ask s skip h = tt
@@ -251,17 +233,6 @@ calm-free text ask s (while p a) h = calm-free text ask s a h
 calm-free text ask s (part a) h = calm-free text ask s a h
 calm-free text ask s (thrice c) h = absurd (false-true h)
 
-thrice-mode : (text : List ℕ) (c : Shape) (s : Parse) (m : Mode) → s .mode ≡ m → (thriceOf text c s) .mode ≡ m
-thrice-mode text c s m w = thrice-keeps text (λ q. q .mode ≡ m) (λ q. q .mode ≡ m)
-    (plain-keeps text (λ q. q .mode ≡ m) (record {
-      cells = λ n cs q i. i;
-      info = λ j q i. i;
-      flow = λ f q i. i;
-      again = λ q i. i;
-      moved = λ q i. moved-case (λ u. u .mode ≡ m) (length text) q (λ l h. i) (λ l h. i) (λ l. i);
-    }))
-    c s w
-
 -- in whole mode every rule is calm
 pub calm-whole : (text : List ℕ) (ask : Test → Bool) (s : Parse) (r : Rule) → s .mode ≡ Whole → Calm text ask s r
 unfolding Calm
@@ -274,7 +245,7 @@ calm-whole text ask s (seq a b) w = (calm-whole text ask s a w, calm-whole text 
 calm-whole text ask s (choose p a b) w = ((λ e. calm-whole text ask s a w), (λ e. calm-whole text ask s b w))
 calm-whole text ask s (while p a) w = calm-whole text ask s a w
 calm-whole text ask s (part a) w = calm-whole text ask s a w
-calm-whole text ask s (thrice c) w = λ m. retried-whole (thriceOf text c (marked text m s)) (thrice-mode text c (marked text m s) Whole w)
+calm-whole text ask s (thrice c) w = λ m. retried-whole (thriceOf text c (marked text m s)) (thrice-mode text c (marked text m s) ∙ w)
   where
     retried-whole : (q : Parse) → q .mode ≡ Whole → retriedOf q ≡ q
     retried-whole q e = ap (λ x. cond (passesEnd x (q .flow) (q .again)) (withFlow GoOn (withAgain q)) q) e

@@ -30,7 +30,8 @@ use Rattle.segment.proofs.Written.{sets-append}
 use Rattle.segment.specs.Standing.{Running}
 use Rattle.segment.proofs.Turns.{run-turn}
 use Rattle.residual.proofs.Residual.{put, noted, Marks, Res, pass, halt, act, first, marked, Claim, Calm, Inside, Fine, first-run, FineRes, fine-first}
-use Rattle.residual.proofs.Steps.{plus, put-plus, more, noted-more, moved-next, moved-end, moved-full, pend, pend-still, single, does-single}
+use Rattle.parse.proofs.Steps.{plus, put-plus, moved-next, moved-end, moved-full}
+use Rattle.residual.proofs.Steps.{more, noted-more, pend, pend-still, single, does-single}
 use Rattle.tables.proofs.Cells.{Cell, over, sets-as, notes, opens, cellOf, fresh, orFresh}
 
 -- what a character more and a note more make of the characters

@@ -14,25 +14,14 @@ use Rattle.records.specs.declared.Parser.the-variants.{Myanmar}
 use Rattle.parse.specs.declared.Parse.{Parse}
 use Rattle.parse.specs.State.{begin}
 use Rattle.parse.specs.Rule.{Test, isEmoji, is}
-use Rattle.parse.specs.Shared.{emojis, emojiTurn, emojiExtension, emojiMark, newline, otherArm}
+use Rattle.parse.specs.Shared.{emojis, otherArm}
 use Rattle.parse.proofs.Loop.{false-true}
-use Rattle.myanmar.specs.Grammar.{cluster, isAlone, kinzi, syllable, base, finals, vowels, medials, pwoToneMark, postBaseVowel, stacked, acceptWithAs, isKinzi}
+use Rattle.myanmar.specs.Grammar.{cluster, isAlone, kinzi, syllable, isKinzi}
+use Rattle.myanmar.proofs.Repeat.{emojis-free, other-free, syllable-free}
 use Rattle.tables.specs.Symbols.{endsAt, myanmarIn, myanmarSymbol, Regular}
-use Rattle.residual.proofs.Residual.{Inside, Calm, calm-free, calm-whole, free}
+use Rattle.residual.proofs.Residual.{Inside, Calm, calm-free, calm-whole}
 use Rattle.tables.proofs.Kinzi.{kinzi-calm}
 use Rattle.tables.proofs.MyanmarFine as fine
-
-emojis-free : free emojis ≡ true
-unfolding emojis emojiTurn emojiExtension emojiMark
-emojis-free = refl
-
-other-free : free otherArm ≡ true
-unfolding otherArm newline
-other-free = refl
-
-syllable-free : free syllable ≡ true
-unfolding syllable base finals vowels medials pwoToneMark postBaseVowel stacked acceptWithAs
-syllable-free = refl
 
 ends-parts : (a b : Bool) → cond a b true ≡ false → (a ≡ true) × (b ≡ false)
 ends-parts true b e = (refl, e)

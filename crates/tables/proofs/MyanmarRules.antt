@@ -12,7 +12,8 @@ use Rattle.parse.specs.Rule.{Test, Rule, skip, stop, push, note, mark, seq, cho
 use Rattle.parse.specs.Shared.{emojiMark, emojiExtension, emojiTurn, emojis, newline, otherArm}
 use Rattle.myanmar.specs.Grammar.{isKinzi, acceptWithAs, stacked, postBaseVowel, pwoToneMark, medials, vowels, finals, base, kinzi, syllable, isAlone, cluster}
 use Rattle.tables.specs.MyanmarTable.{myanmarTable}
-use Rattle.residual.proofs.Residual.{first, free}
+use Rattle.parse.proofs.Free.{free}
+use Rattle.residual.proofs.Residual.{first}
 use Rattle.tables.proofs.Cells.{Cell, over, cellOf, fresh, orFresh, decodedBy, okay, tabulate, tab-at, agree, map-at, allTrue, true-at}
 
 unfoldable pub r0 : Rule

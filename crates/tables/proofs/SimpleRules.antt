@@ -12,7 +12,8 @@ use Rattle.parse.specs.Rule.{Test, Rule, skip, stop, push, note, mark, seq, cho
 use Rattle.parse.specs.Shared.{emojiMark, emojiExtension, emojiTurn, emojis, newline}
 use Rattle.simple.specs.Grammar.{isExtension, combining, extend, extension, leading, vowel, trailing, other, syllable, control, start, cluster}
 use Rattle.tables.specs.SimpleTable.{simpleTable}
-use Rattle.residual.proofs.Residual.{first, free}
+use Rattle.parse.proofs.Free.{free}
+use Rattle.residual.proofs.Residual.{first}
 use Rattle.tables.proofs.Cells.{Cell, cellOf, fresh, orFresh, decodedBy, okay, tabulate, tab-at, map-at, true-at}
 
 unfoldable pub r0 : Rule

@@ -79,14 +79,6 @@ module _ (words pictographs : List ℕ) (accepted : wordVerdict words pictograph
   run-folds i h =
       rw (step-accepts i h) (step-is _ _ _ _ (ap (stateAt words pictographs) (sym (add-one i))) refl (leaves-accepts (stateAt words pictographs i) _ _))
 
--- two columns have the same records up to an index, or end at the same one
-abbrev pub Agree : List ℕ → List ℕ → ℕ → Type 0
-Agree words words′ i = (k : ℕ) → k ≤ i → nextAt words k ≡ nextAt words′ k
-
--- two columns of marks have the same up to an index
-abbrev pub Alike : List ℕ → List ℕ → ℕ → Type 0
-Alike marks marks′ i = (k : ℕ) → k ≤ i → cell marks k ≡ cell marks′ k
-
 classOr : Next → ℕ
 classOr (Class c) = c
 classOr End = 0
@@ -115,17 +107,21 @@ module _ (words words′ pictographs pictographs′ : List ℕ) where
   unfolding answerAt
   answers-agree i j s w p n = ap (λ (r : WordStep). r .answer) (steps-agree i j s w p n)
 
-  states-alike : (i : ℕ) → Agree words words′ i → Alike pictographs pictographs′ i → stateAt words pictographs i ≡ stateAt words′ pictographs′ i
+  -- The state before a record depends on the records up to that one, and on the marks before it.
+  pub states-alike : (i : ℕ) → ((k : ℕ) → k ≤ i → nextAt words k ≡ nextAt words′ k) → ((k : ℕ) → k < i → cell pictographs k ≡ cell pictographs′ k)
+      → stateAt words pictographs i ≡ stateAt words′ pictographs′ i
   unfolding stateAt
   states-alike zero w p = refl
   states-alike (suc i) w p =
       ap (λ (r : WordStep). r .state)
       (steps-agree i i (states-alike i (λ k h. w k (omega arith)) (λ k h. p k (omega arith))) (w i (omega arith)) (p i (omega arith)) (w (i + 1) (omega arith)))
 
-  -- "The look-ahead is the next record only": two texts that agree up to the next record have the same answer, whatever follows.
-  pub answers-alike : (i : ℕ) → Agree words words′ (i + 1) → Alike pictographs pictographs′ i → answerAt words pictographs i ≡ answerAt words′ pictographs′ i
+  -- "The look-ahead is the next record only": two texts have the same answer at a record where their classes agree up to the next
+  -- record (they are the same, or both texts have ended) and their marks up to the record itself, whatever follows.
+  pub answers-alike : (i : ℕ) → ((k : ℕ) → k ≤ i + 1 → nextAt words k ≡ nextAt words′ k) → ((k : ℕ) → k ≤ i → cell pictographs k ≡ cell pictographs′ k)
+      → answerAt words pictographs i ≡ answerAt words′ pictographs′ i
   answers-alike i w p =
-      answers-agree i i (states-alike i (λ k h. w k (omega arith)) p) (w i (omega arith)) (p i (omega arith)) (w (i + 1) (omega arith))
+      answers-agree i i (states-alike i (λ k h. w k (omega arith)) (λ k h. p k (omega arith))) (w i (omega arith)) (p i (omega arith)) (w (i + 1) (omega arith))
 
 -- The cells after a run: with a refusal as they were, else a record's cell has its answer, and a cell past the records is as it was.
 module _ (words pictographs out : List ℕ) where

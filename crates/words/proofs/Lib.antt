@@ -3,3 +3,4 @@ pub mod Answers
 pub mod Chain
 pub mod Effects
 pub mod Laws
+pub mod Refusals

@@ -6,24 +6,24 @@ use mathlib.Core.List.{List}
 use lib.ListN.{length}
 use Rattle.classes.specs.declared.Shape.{Shape}
 use Rattle.classes.specs.declared.Shape.the-variants.{Other}
 use Rattle.parse.specs.declared.Parse.{Parse}
 use Rattle.parse.specs.State.{tokenAt, going, putOf, notedOf, movedOf, onJoiner, hop, stepOf, pushOf, noteOf}
 use Rattle.parse.specs.Rule.{Rule, skip, stop, push, note, mark, seq, choose, while, part, thrice, run, holds, takeOf, thriceOf}
 use Rattle.parse.proofs.Loop.{false-true, if-same, both, loop-keeps}
 use Rattle.parse.proofs.Moves.{put-same, noted-same, moved-case}
 
--- a rule without a `thrice`
-abbrev pub calm : Rule → Bool
-calm skip = true
-calm stop = true
-calm (push f) = true
-calm note = true
-calm (mark f) = true
-calm (seq a b) = cond (calm a) (calm b) false
-calm (choose p a b) = cond (calm a) (calm b) false
-calm (while p a) = calm a
-calm (part a) = calm a
-calm (thrice c) = false
+-- a rule with no kinzi in it
+abbrev pub free : Rule → Bool
+free skip = true
+free stop = true
+free (push f) = true
+free note = true
+free (mark f) = true
+free (seq a b) = cond (free a) (free b) false
+free (choose p a b) = cond (free a) (free b) false
+free (while p a) = free a
+free (part a) = free a
+free (thrice c) = false
 
 abbrev againOf : Parse → Bool
 againOf s = s .again
@@ -49,7 +49,7 @@ module _ (text : List ℕ) where
   unfolding thriceOf
   thrice-again c s = let a = takeOf text c s in let b = takeOf text c a in take-again c b ∙ take-again c a ∙ take-again c s
 
-  pub run-again : (r : Rule) (s : Parse) → calm r ≡ true → (run r text s) .again ≡ s .again
+  pub run-again : (r : Rule) (s : Parse) → free r ≡ true → (run r text s) .again ≡ s .again
   unfolding run noteOf
   run-again skip s k = refl
   run-again stop s k = if-same againOf (going s) _ s (s .again) refl refl
@@ -57,8 +57,8 @@ module _ (text : List ℕ) where
   run-again note s k = let t = tokenAt text (s .at) in
       if-same againOf (going s) _ s (s .again) (step-again (notedOf t s) ∙ noted-same againOf (λ n cs q. refl) t s) refl
   run-again (mark f) s k = if-same againOf (going s) _ s (s .again) refl refl
-  run-again (seq a b) s k = let h = both (calm a) (calm b) k in run-again b (run a text s) (h .1) ∙ run-again a s (h .0)
-  run-again (choose p a b) s k = let h = both (calm a) (calm b) k in
+  run-again (seq a b) s k = let h = both (free a) (free b) k in run-again b (run a text s) (h .1) ∙ run-again a s (h .0)
+  run-again (choose p a b) s k = let h = both (free a) (free b) k in
       if-same againOf (holds text p s) (run a text s) (run b text s) (s .again) (run-again a s (h .0)) (run-again b s (h .1))
   run-again (while p a) s k = loop-keeps text (holds text p) (run a text) (λ q. q .again ≡ s .again) (λ q i h. run-again a q k ∙ i) s refl
   run-again (part a) s k = if-same againOf (going s) _ s (s .again) (run-again a s k) refl

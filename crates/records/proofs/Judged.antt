@@ -1,0 +1,164 @@
+-- What the check says is what document 01's table says, and so is what every call says that begins with it and then looks for lines of
+-- its own; the same of the word run's own check. Assumes nothing.
+use Prim.Native.Nat.{ℕ, zero, suc, _+_, _<_}
+use mathlib.Core.Path.{_≡_, refl, sym, _∙_, ap, subst}
+use mathlib.Core.Bool.{Bool, true, false, cond, _&&_, _||_, or-false, false≢true}
+use mathlib.Core.List.{List, [], _∷_}
+use mathlib.Core.Logic.{_⊎_, inl, inr, ⊎-elim}
+use native.Mathlib.Omega.{arith}
+use lib.ListN.{length}
+use Rattle.records.specs.Text.{Text, cell, rowOf, partOf, recordLengths, partLengths}
+use Rattle.records.specs.declared.Row.{Row}
+use Rattle.records.specs.declared.PartRow.{PartRow}
+use Rattle.records.specs.declared.Side.{Side}
+use Rattle.records.specs.declared.Side.the-variants.{Record, Part, Neither}
+use Rattle.records.specs.declared.Parser.{Parser}
+use Rattle.records.specs.declared.Parser.the-variants.{Simple, Myanmar, Complex, Khmer}
+use Rattle.records.specs.declared.Verdict.{Verdict}
+use Rattle.records.specs.declared.Verdict.the-variants.{Accepted, Refused}
+use Rattle.records.specs.Refusals.{isComplex, isKhmer, refuse, _⊳_, over, tooLong, uneven, badScalar, outside, partCodes, recordClasses, recordMarks, badRun, barred, judgePart, judgeRecord, judgeSign, judgeSignAt, judgeParts, judgeRecords, judgeSigns, judgeLengths, verdict, judgeWord, wordVerdict}
+use Rattle.records.specs.Offences.{Line, breaks, Offends, Judges, ByTable, Asks, partLines, recordLines, lengthLines, badSignAt, someFrom, signLine, tableOf, wordLines, wordTableOf}
+use Rattle.records.proofs.Tables.{both, either, fits, inOrder, broken-fits, firstLine, firstOf, Ordered, by-table}
+
+-- # Verdicts one after the other
+
+pub alone : (v : Verdict) → v ⊳ Accepted ≡ v
+alone Accepted = refl
+alone (Refused number side index) = refl
+
+then-assoc : (a b c : Verdict) → (a ⊳ b) ⊳ c ≡ a ⊳ b ⊳ c
+then-assoc Accepted b c = refl
+then-assoc (Refused number side index) b c = refl
+
+over-same : (f g : ℕ → Verdict) → ((i : ℕ) → f i ≡ g i) → (n i : ℕ) → over f i n ≡ over g i n
+unfolding over
+over-same f g e zero i = refl
+over-same f g e (suc n) i = rw (e i, over-same f g e n (i + 1))
+
+over-some : (p : ℕ → Bool) (n i : ℕ) → over (λ k. refuse (p k) 7 Neither 0) i n ≡ refuse (someFrom p i n) 7 Neither 0
+unfolding over someFrom
+over-some p zero i = refl
+over-some p (suc n) i = go (p i) (over-some p n (i + 1))
+  where
+    go : (b : Bool) → over (λ k. refuse (p k) 7 Neither 0) (i + 1) n ≡ refuse (someFrom p (i + 1) n) 7 Neither 0 → refuse b 7 Neither 0 ⊳ over (λ k. refuse (p k) 7 Neither 0) (i + 1) n ≡ refuse (b || someFrom p (i + 1) n) 7 Neither 0
+    go true e = refl
+    go false e = e
+
+-- # The check
+
+-- the lines about a part, and about a record, are the definition's
+part-lines : (parser : Parser) (p : PartRow) (i : ℕ) → firstLine (partLines parser p) Part i ≡ judgePart parser p i
+unfolding judgePart
+part-lines parser p i =
+    ap (λ v. refuse (badScalar (p .scalar)) 3 Part i ⊳ refuse (outside (partCodes p)) 4 Part i ⊳ v) (alone (refuse (barred parser (p .scalar) (p .uclass)) 6 Part i))
+
+record-lines : (parser : Parser) (parts : ℕ) (r : Row) (i : ℕ) → firstLine (recordLines parser parts r) Record i ≡ judgeRecord parser r parts i
+unfolding judgeRecord
+record-lines parser parts r i =
+    ap (λ v. refuse (badScalar (r .scalar)) 3 Record i ⊳ refuse (outside (recordClasses r) || outside (recordMarks r)) 4 Record i ⊳ refuse (badRun r parts) 5 Record i ⊳ v)
+    (alone (refuse (barred parser (r .scalar) (r .uclass)) 6 Record i))
+
+length-lines : (records parts : List ℕ) → firstLine (lengthLines records parts) Neither 0 ≡ judgeLengths records parts
+unfolding judgeLengths
+length-lines records parts =
+    ap (λ v. refuse (tooLong records || tooLong parts) 1 Neither 0 ⊳ v) (alone (refuse (uneven records || uneven parts) 2 Neither 0))
+
+sign-line : (parser : Parser) (t : Text) → refuse ((signLine parser t) .broken) 7 Neither 0 ≡ judgeSigns parser t
+unfolding judgeSigns judgeSign
+sign-line parser t = go (isKhmer parser)
+  where
+    go : (b : Bool) → refuse (b && someFrom (badSignAt t) 0 (length (t .records .scalars))) 7 Neither 0 ≡ cond b (over (judgeSignAt t) 0 (length (t .records .scalars))) Accepted
+    go true = sym (over-some (badSignAt t) (length (t .records .scalars)) 0)
+    go false = refl
+
+-- four verdicts, and what a call adds
+four-then : (a b c d e : Verdict) → a ⊳ b ⊳ c ⊳ d ⊳ e ≡ (a ⊳ b ⊳ c ⊳ d) ⊳ e
+four-then a b c d e = sym (then-assoc a (b ⊳ c ⊳ d) e ∙ ap (λ v. a ⊳ v) (then-assoc b (c ⊳ d) e ∙ ap (λ v. b ⊳ v) (then-assoc c d e)))
+
+-- the check's lines, and those that a call adds
+table-first : (parser : Parser) (t : Text) (more : List Line) → firstOf (tableOf parser t more) ≡ verdict parser t ⊳ firstLine more Neither 0
+unfolding verdict judgeParts judgeRecords
+table-first parser t more =
+    rw (
+      length-lines (recordLengths (t .records)) (partLengths (t .parts)),
+      over-same (λ i. firstLine (partLines parser (partOf (t .parts) i)) Part i) (λ i. judgePart parser (partOf (t .parts) i) i) (λ i. part-lines parser (partOf (t .parts) i) i) (length (t .parts .pscalars)) 0,
+      over-same (λ i. firstLine (recordLines parser (length (t .parts .pscalars)) (rowOf (t .records) i)) Record i) (λ i. judgeRecord parser (rowOf (t .records) i) (length (t .parts .pscalars)) i) (λ i. record-lines parser (length (t .parts .pscalars)) (rowOf (t .records) i) i) (length (t .records .scalars)) 0,
+      sign-line parser t,
+    )
+    (four-then (judgeLengths (recordLengths (t .records)) (partLengths (t .parts))) (judgeParts parser (t .parts)) (judgeRecords parser (t .records) (length (t .parts .pscalars))) (judgeSigns parser t) (firstLine more Neither 0))
+
+-- "complex only", "complex with Khmer": of the check, and of every call that begins with it
+is-complex : (parser : Parser) → isComplex parser ≡ true → (parser ≡ Complex) ⊎ (parser ≡ Khmer)
+is-complex Simple e = absurd (false≢true e)
+is-complex Myanmar e = absurd (false≢true e)
+is-complex Complex e = inl refl
+is-complex Khmer e = inr refl
+
+is-khmer : (parser : Parser) → isKhmer parser ≡ true → parser ≡ Khmer
+is-khmer Simple e = absurd (false≢true e)
+is-khmer Myanmar e = absurd (false≢true e)
+is-khmer Complex e = absurd (false≢true e)
+is-khmer Khmer e = refl
+
+barred-complex : (parser : Parser) (scalar class : ℕ) → (barred parser scalar class || false) ≡ true → isComplex parser ≡ true
+unfolding barred
+barred-complex parser scalar class e = both (isComplex parser) _ (sym (or-false (barred parser scalar class)) ∙ e) .0
+
+module _ (numbers : List ℕ) (parser : Parser) (t : Text) (more : List Line) (ordered : Ordered numbers (tableOf parser t more)) where
+  -- what a call adds are 8 and 9
+  added : (number : ℕ) → number < 8 → breaks more number ≡ true → ⊥
+  added number h b =
+      omega (arith, broken-fits numbers Neither 8 10 more number (both (fits numbers Neither 7 10 7) (inOrder numbers Neither 8 10 more) (ordered .after) .1) b .from)
+
+  offence-six : (side : Side) (index : ℕ) → Offends (tableOf parser t more) 6 side index → isComplex parser ≡ true
+  offence-six Neither index (i, b) = absurd (added 6 (omega arith) b)
+  offence-six Part index (i, b) = barred-complex parser _ _ b
+  offence-six Record index (i, b) = barred-complex parser _ _ b
+
+  offence-seven : (side : Side) (index : ℕ) → Offends (tableOf parser t more) 7 side index → isKhmer parser ≡ true
+  offence-seven Neither index (i, b) =
+      ⊎-elim (λ h. both (isKhmer parser) (someFrom (badSignAt t) 0 (length (t .records .scalars))) h .0) (λ h. absurd (added 7 (omega arith) h))
+      (either ((signLine parser t) .broken) (breaks more 7) b)
+  offence-seven Part index (i, b) = absurd (false≢true b)
+  offence-seven Record index (i, b) = absurd (false≢true b)
+
+  judges-asks : (v : Verdict) → Judges (Offends (tableOf parser t more)) v → Asks parser v
+  judges-asks Accepted j = record { six = λ e. absurd (omega arith); seven = λ e. absurd (omega arith) }
+  judges-asks (Refused number side index) j =
+      let offends : ℕ → Type 0 = λ n. Offends (tableOf parser t more) n side index in
+      record {
+        six = λ e. is-complex parser (offence-six side index (subst offends e (j .0)));
+        seven = λ e. is-khmer parser (offence-seven side index (subst offends e (j .0)));
+      }
+
+-- a call that begins with the check and then looks for lines of its own
+pub call-by-table : (numbers : List ℕ) (parser : Parser) (t : Text) (more : List Line) → Ordered numbers (tableOf parser t more) → (v : Verdict) → v ≡ verdict parser t ⊳ firstLine more Neither 0 → ByTable numbers (tableOf parser t more) v × Asks parser v
+call-by-table numbers parser t more ordered v e =
+    let told : ByTable numbers (tableOf parser t more) v = by-table numbers (tableOf parser t more) ordered v (e ∙ sym (table-first parser t more)) in
+    (told, judges-asks numbers parser t more ordered v (told .first))
+
+-- The check says what the table says.
+pub check-by-table : (parser : Parser) (t : Text) → ByTable (1 ∷ 2 ∷ 3 ∷ 4 ∷ 5 ∷ 6 ∷ 7 ∷ []) (tableOf parser t []) (verdict parser t) × Asks parser (verdict parser t)
+check-by-table parser t =
+    call-by-table _ parser t [] (record { before = refl; parts = λ i. refl; records = λ i. refl; after = refl }) (verdict parser t) (sym (alone (verdict parser t)))
+
+-- # The word run's own check
+
+word-lines : (words pictographs : List ℕ) (i : ℕ) → firstLine (wordLines words pictographs i) Record i ≡ judgeWord (cell words i) (cell pictographs i) i
+unfolding judgeWord
+word-lines words pictographs i = alone _
+
+pub word-table-first : (words pictographs : List ℕ) (more : List Line) → firstOf (wordTableOf words pictographs more) ≡ wordVerdict words pictographs ⊳ firstLine more Neither 0
+unfolding wordVerdict over
+word-table-first words pictographs more =
+    rw (
+      length-lines (length words ∷ length pictographs ∷ []) [],
+      over-same (λ i. firstLine (wordLines words pictographs i) Record i) (λ i. judgeWord (cell words i) (cell pictographs i) i) (word-lines words pictographs) (length words) 0,
+    )
+    (sym (then-assoc (judgeLengths (length words ∷ length pictographs ∷ []) []) (over (λ i. judgeWord (cell words i) (cell pictographs i) i) 0 (length words)) (firstLine more Neither 0)))
+
+-- The same of the word run's own check.
+pub check-words-by-table : (words pictographs : List ℕ) → ByTable (1 ∷ 2 ∷ 4 ∷ []) (wordTableOf words pictographs []) (wordVerdict words pictographs)
+check-words-by-table words pictographs =
+    by-table _ (wordTableOf words pictographs []) (record { before = refl; parts = λ i. refl; records = λ i. refl; after = refl }) (wordVerdict words pictographs)
+    (sym (word-table-first words pictographs [] ∙ alone (wordVerdict words pictographs)))

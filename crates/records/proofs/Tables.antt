@@ -1,0 +1,341 @@
+-- A verdict by a table of refusals: what the lines give one after the other is the first offence in testing order. One law for every
+-- call that refuses, `by-table`. Assumes nothing.
+use Prim.Native.Nat.{ℕ, zero, suc, _+_, _<_, _≤_}
+use mathlib.Core.Path.{_≡_, refl, sym, _∙_, ap, subst}
+use mathlib.Core.Bool.{Bool, true, false, cond, _&&_, _||_, and-false, or-true, or-assoc, false≢true}
+use mathlib.Core.List.{List, [], _∷_, _++_}
+use mathlib.Core.Logic.{_⊎_, inl, inr, ⊎-elim}
+use native.Mathlib.Nat.{eq-or-lt-of-le}
+use native.Mathlib.Omega.{arith}
+use lib.Dec.{eqb, leb, ltb}
+use borrow.Author.Tests.{eqb-true, eq-eqb, leb-true, ltb-true, ltb-false, lt-ltb, le-ltb}
+use Rattle.records.specs.declared.Side.{Side}
+use Rattle.records.specs.declared.Side.the-variants.{Record, Part, Neither}
+use Rattle.records.specs.declared.Verdict.{Verdict}
+use Rattle.records.specs.declared.Verdict.the-variants.{Accepted, Refused}
+use Rattle.records.specs.Refusals.{refuse, _⊳_, over, member}
+use Rattle.records.specs.Offences.{Line, breaks, Table, Offends, stage, Earlier, Judges, sideNumbers, Carries, ByTable}
+
+-- # Tests
+
+pub both : (a b : Bool) → (a && b) ≡ true → (a ≡ true) × (b ≡ true)
+both true b e = (refl, e)
+both false b e = absurd (false≢true e)
+
+pub either : (a b : Bool) → (a || b) ≡ true → (a ≡ true) ⊎ (b ≡ true)
+either true b e = inl refl
+either false b e = inr e
+
+-- # Lines in order
+
+-- a number from low on and below high, of the call's numbers and of the side's
+abbrev pub fits : List ℕ → Side → ℕ → ℕ → ℕ → Bool
+fits numbers side low high number = leb low number && (ltb number high && (member numbers number && member (sideNumbers side) number))
+
+-- the numbers of the lines are such, and rise
+abbrev pub inOrder : List ℕ → Side → ℕ → ℕ → List Line → Bool
+inOrder numbers side low high [] = true
+inOrder numbers side low high (l ∷ ls) = fits numbers side low high (l .number) && inOrder numbers side (suc (l .number)) high ls
+
+pub record Fits (numbers : List ℕ) (side : Side) (low high number : ℕ) : Type 0 where
+  pub from : low ≤ number
+  pub below : number < high
+  pub called : member numbers number ≡ true
+  pub sided : member (sideNumbers side) number ≡ true
+
+test-fits : (numbers : List ℕ) (side : Side) (low high number : ℕ) → fits numbers side low high number ≡ true → Fits numbers side low high number
+test-fits numbers side low high number e =
+    let a : _ = both (leb low number) (ltb number high && (member numbers number && member (sideNumbers side) number)) e in
+    let b : _ = both (ltb number high) (member numbers number && member (sideNumbers side) number) (a .1) in
+    let c : _ = both (member numbers number) (member (sideNumbers side) number) (b .1) in
+    record { from = leb-true low number (a .0); below = ltb-true number high (b .0); called = c .0; sided = c .1 }
+
+told : {numbers : List ℕ} {side : Side} {low high number : ℕ} → Fits numbers side low high number → (member numbers number ≡ true) × (member (sideNumbers side) number ≡ true)
+told f = (f .called, f .sided)
+
+-- so is the number of a broken line
+pub broken-fits : (numbers : List ℕ) (side : Side) (low high : ℕ) (ls : List Line) (number : ℕ) → inOrder numbers side low high ls ≡ true → breaks ls number ≡ true → Fits numbers side low high number
+broken-fits numbers side low high [] number ordered b = absurd (false≢true b)
+broken-fits numbers side low high (l ∷ ls) number ordered b =
+    let w : _ = both (fits numbers side low high (l .number)) (inOrder numbers side (suc (l .number)) high ls) ordered in
+    let here : Fits numbers side low high (l .number) = test-fits numbers side low high (l .number) (w .0) in
+    ⊎-elim (λ (h : (eqb (l .number) number && l .broken) ≡ true). subst (Fits numbers side low high) (eqb-true (l .number) number (both (eqb (l .number) number) (l .broken) h .0)) here)
+    (λ (h : breaks ls number ≡ true).
+    let r : Fits numbers side (suc (l .number)) high number = broken-fits numbers side (suc (l .number)) high ls number (w .1) h in
+    record { from = omega (arith, r .from, here .from); below = r .below; called = r .called; sided = r .sided })
+    (either (eqb (l .number) number && l .broken) (breaks ls number) b)
+
+breaks-append : (ls ms : List Line) (number : ℕ) → breaks (ls ++ ms) number ≡ (breaks ls number || breaks ms number)
+breaks-append [] ms number = refl
+breaks-append (l ∷ ls) ms number =
+    ap (λ b. eqb (l .number) number && l .broken || b) (breaks-append ls ms number)
+    ∙ sym (or-assoc (eqb (l .number) number && l .broken) (breaks ls number) (breaks ms number))
+
+-- # The order of offences
+
+stage-rises : (side : Side) (number number′ : ℕ) → number ≤ number′ → stage number side ≤ stage number′ side
+stage-rises Part number number′ h = omega arith
+stage-rises Record number number′ h = omega arith
+stage-rises Neither number number′ h = go (ltb number 3) (ltb number′ 3) refl refl
+  where
+    go : (a b : Bool) → ltb number 3 ≡ a → ltb number′ 3 ≡ b → cond a 0 3 ≤ cond b 0 3
+    go true b e f = omega arith
+    go false true e f = absurd (omega (arith, ltb-false number 3 e, ltb-true number′ 3 f))
+    go false false e f = omega arith
+
+-- at one side and index only a lower number comes earlier, and it does
+not-earlier : (side : Side) (index number number′ : ℕ) → number ≤ number′ → Earlier number′ side index number side index → ⊥
+not-earlier side index number number′ h (inl l) = omega (arith, stage-rises side number number′ h)
+not-earlier side index number number′ h (inr (e, inl l)) = omega arith
+not-earlier side index number number′ h (inr (e, inr (q, l))) = omega arith
+
+lower-earlier : (side : Side) (index number number′ : ℕ) → number′ < number → Earlier number′ side index number side index
+lower-earlier side index number number′ h =
+    let l : number′ ≤ number = omega arith in
+    ⊎-elim (λ e. inr (e, inr (refl, h))) (λ r. inl r) (eq-or-lt-of-le (stage-rises side number′ number l))
+
+-- # Verdicts one after the other
+
+abbrev Offences : Type 1
+Offences = ℕ → Side → ℕ → Type 0
+
+abbrev Either : Offences → Offences → Offences
+Either A B number side index = A number side index ⊎ B number side index
+
+module _ (A B : Offences) where
+  same-judges : (v : Verdict) → ((number : ℕ) (side : Side) (index : ℕ) → A number side index → B number side index) → ((number : ℕ) (side : Side) (index : ℕ) → B number side index → A number side index) → Judges A v → Judges B v
+  same-judges Accepted f g j = λ n s i o. j n s i (g n s i o)
+  same-judges (Refused number side index) f g j = (f number side index (j .0), λ n s i e o. j .1 n s i e (g n s i o))
+
+  -- no offence of the later comes earlier
+  abbrev Apart : Type 0
+  Apart = (number : ℕ) (side : Side) (index number′ : ℕ) (side′ : Side) (index′ : ℕ) → A number side index → B number′ side′ index′ → Earlier number′ side′ index′ number side index → ⊥
+
+  then-judges : (a b : Verdict) → Apart → Judges A a → Judges B b → Judges (Either A B) (a ⊳ b)
+  then-judges Accepted Accepted apart p q = λ n s i o. ⊎-elim (λ x. p n s i x) (λ y. q n s i y) o
+  then-judges Accepted (Refused number side index) apart p q =
+      (inr (q .0), λ n s i e o. ⊎-elim (λ x. p n s i x) (λ y. q .1 n s i e y) o)
+  then-judges (Refused number side index) b apart p q =
+      (inl (p .0), λ n s i e o. ⊎-elim (λ x. p .1 n s i e x) (λ y. apart number side index n s i (p .0) y e) o)
+
+  by-stage : (k : ℕ) → ((number : ℕ) (side : Side) (index : ℕ) → A number side index → stage number side ≤ k) → ((number : ℕ) (side : Side) (index : ℕ) → B number side index → k < stage number side) → Apart
+  by-stage k f g number side index number′ side′ index′ x y (inl l) = omega (arith, f number side index x, g number′ side′ index′ y)
+  by-stage k f g number side index number′ side′ index′ x y (inr (e, r)) = omega (arith, f number side index x, g number′ side′ index′ y)
+
+-- # Lines about one thing
+
+abbrev pub firstLine : List Line → Side → ℕ → Verdict
+firstLine [] side index = Accepted
+firstLine (l ∷ ls) side index = refuse (l .broken) (l .number) side index ⊳ firstLine ls side index
+
+abbrev Fault : List Line → Side → ℕ → Offences
+Fault ls side index number side′ index′ = (side′ ≡ side) × (index′ ≡ index) × (breaks ls number ≡ true)
+
+unbroken : (l : Line) (ls : List Line) (number : ℕ) → l .broken ≡ false → breaks (l ∷ ls) number ≡ breaks ls number
+unbroken l ls number e = rw (e, and-false (eqb (l .number) number))
+
+lines-judge : (numbers : List ℕ) (side : Side) (index low high : ℕ) (ls : List Line) → inOrder numbers side low high ls ≡ true → Judges (Fault ls side index) (firstLine ls side index)
+lines-judge numbers side index low high [] ordered = λ n s i o. absurd (false≢true (o .2))
+lines-judge numbers side index low high (l ∷ ls) ordered =
+    go (l .broken) refl (lines-judge numbers side index (suc (l .number)) high ls rest)
+  where
+    rest : inOrder numbers side (suc (l .number)) high ls ≡ true
+    rest = both (fits numbers side low high (l .number)) (inOrder numbers side (suc (l .number)) high ls) ordered .1
+
+    not-before : (number : ℕ) → breaks (l ∷ ls) number ≡ true → l .number ≤ number
+    not-before number b =
+        ⊎-elim (λ (h : (eqb (l .number) number && l .broken) ≡ true). omega (arith, eqb-true (l .number) number (both (eqb (l .number) number) (l .broken) h .0)))
+        (λ (h : breaks ls number ≡ true). omega (arith, broken-fits numbers side (suc (l .number)) high ls number rest h .from))
+        (either (eqb (l .number) number && l .broken) (breaks ls number) b)
+
+    first : (number : ℕ) (side′ : Side) (index′ : ℕ) → Earlier number side′ index′ (l .number) side index → Fault (l ∷ ls) side index number side′ index′ → ⊥
+    first number side′ index′ e o =
+        not-earlier side index (l .number) number (not-before number (o .2))
+        (subst (λ s. Earlier number s index (l .number) side index) (o .0) (subst (λ i. Earlier number side′ i (l .number) side index) (o .1) e))
+
+    go : (b : Bool) → l .broken ≡ b → Judges (Fault ls side index) (firstLine ls side index) → Judges (Fault (l ∷ ls) side index) (refuse b (l .number) side index ⊳ firstLine ls side index)
+    go true e j = ((refl, refl, rw (eq-eqb (l .number) (l .number) refl, e)), first)
+    go false e j =
+        same-judges (Fault ls side index) (Fault (l ∷ ls) side index) (firstLine ls side index)
+        (λ n s i o. (o .0, o .1, unbroken l ls n e ∙ o .2)) (λ n s i o. (o .0, o .1, sym (unbroken l ls n e) ∙ o .2)) j
+
+-- # Lines about each of n indices, of a side that is one stage
+
+abbrev Faults : (ℕ → List Line) → Side → ℕ → ℕ → Offences
+Faults ls side from n number side′ index = (side′ ≡ side) × (from ≤ index) × (index < from + n) × (breaks (ls index) number ≡ true)
+
+module _ (numbers : List ℕ) (side : Side) (low high : ℕ) (ls : ℕ → List Line) (ordered : (i : ℕ) → inOrder numbers side low high (ls i) ≡ true) (flat : (number number′ : ℕ) → stage number side ≡ stage number′ side) where
+  rising : (from n : ℕ) → Apart (Fault (ls from) side from) (Faults ls side (from + 1) n)
+  rising from n number side₀ index number′ side′ index′ x y e =
+      let a : stage number side₀ ≡ stage number side = ap (stage number) (x .0) in
+      let b : stage number′ side′ ≡ stage number′ side = ap (stage number′) (y .0) in
+      let c : stage number′ side ≡ stage number side = flat number′ number in
+      ⊎-elim (λ l. omega arith) (λ r. ⊎-elim (λ l. omega (arith, x .1, y .1)) (λ q. omega (arith, x .1, y .1, q .0)) (r .1)) e
+
+  abbrev judge : ℕ → Verdict
+  judge i = firstLine (ls i) side i
+
+  over-judges : (n from : ℕ) → Judges (Faults ls side from n) (over judge from n)
+  unfolding over
+  over-judges zero from = λ number side′ index o. omega (arith, o .1, o .2)
+  over-judges (suc n) from =
+      same-judges (Either (Fault (ls from) side from) (Faults ls side (from + 1) n)) (Faults ls side from (suc n)) (judge from ⊳ over judge (from + 1) n) spread gathered
+      (then-judges (Fault (ls from) side from) (Faults ls side (from + 1) n) (judge from) (over judge (from + 1) n) (rising from n) (lines-judge numbers side from low high (ls from) (ordered from)) (over-judges n (from + 1)))
+    where
+      spread : (number : ℕ) (side′ : Side) (index : ℕ) → Either (Fault (ls from) side from) (Faults ls side (from + 1) n) number side′ index → Faults ls side from (suc n) number side′ index
+      spread number side′ index (inl (s, i, b)) = (s, omega arith, omega arith, subst (λ k. breaks (ls k) number ≡ true) (sym i) b)
+      spread number side′ index (inr (s, l, h, b)) = (s, omega arith, omega arith, b)
+
+      gathered : (number : ℕ) (side′ : Side) (index : ℕ) → Faults ls side from (suc n) number side′ index → Either (Fault (ls from) side from) (Faults ls side (from + 1) n) number side′ index
+      gathered number side′ index (s, l, h, b) =
+          ⊎-elim (λ e. inl (s, sym e, subst (λ k. breaks (ls k) number ≡ true) (sym e) b)) (λ q. inr (s, omega arith, omega arith, b)) (eq-or-lt-of-le l)
+
+-- # Offences decide the verdict
+
+between : (b : Bool) (k : ℕ) → 0 < k → k < 3 → k ≡ cond b 0 3 → ⊥
+between true k l h e = omega arith
+between false k l h e = omega arith
+
+stage-tells : (number : ℕ) (a b : Side) → stage number a ≡ stage number b → a ≡ b
+stage-tells number Record Record e = refl
+stage-tells number Record Part e = absurd (omega arith)
+stage-tells number Record Neither e = absurd (between (ltb number 3) 2 (omega arith) (omega arith) e)
+stage-tells number Part Record e = absurd (omega arith)
+stage-tells number Part Part e = refl
+stage-tells number Part Neither e = absurd (between (ltb number 3) 1 (omega arith) (omega arith) e)
+stage-tells number Neither Record e = absurd (between (ltb number 3) 2 (omega arith) (omega arith) (sym e))
+stage-tells number Neither Part e = absurd (between (ltb number 3) 1 (omega arith) (omega arith) (sym e))
+stage-tells number Neither Neither e = refl
+
+-- two offences of which neither comes earlier are one
+no-earlier : (number : ℕ) (side : Side) (index number′ : ℕ) (side′ : Side) (index′ : ℕ) → (Earlier number side index number′ side′ index′ → ⊥) → (Earlier number′ side′ index′ number side index → ⊥) → Refused number side index ≡ Refused number′ side′ index′
+no-earlier number side index number′ side′ index′ f g =
+    let a : ¬ (stage number side < stage number′ side′) = λ l. f (inl l) in
+    let b : ¬ (stage number′ side′ < stage number side) = λ l. g (inl l) in
+    let s : stage number side ≡ stage number′ side′ = omega (arith, a, b) in
+    let c : ¬ (index < index′) = λ l. f (inr (s, inl l)) in
+    let d : ¬ (index′ < index) = λ l. g (inr (sym s, inl l)) in
+    let i : index ≡ index′ = omega (arith, c, d) in
+    let h : ¬ (number < number′) = λ l. f (inr (s, inr (i, l))) in
+    let k : ¬ (number′ < number) = λ l. g (inr (sym s, inr (sym i, l))) in
+    let n : number ≡ number′ = omega (arith, h, k) in
+    let e : side ≡ side′ = stage-tells number side side′ (s ∙ ap (λ m. stage m side′) (sym n)) in
+    rw (n, e, i)
+
+judges-unique : (offends : ℕ → Side → ℕ → Type 0) (v w : Verdict) → Judges offends v → Judges offends w → v ≡ w
+judges-unique offends Accepted Accepted p q = refl
+judges-unique offends Accepted (Refused number side index) p q = absurd (p number side index (q .0))
+judges-unique offends (Refused number side index) Accepted p q = absurd (q number side index (p .0))
+judges-unique offends (Refused number side index) (Refused number′ side′ index′) p q =
+    no-earlier number side index number′ side′ index′ (λ e. q .1 number side index e (p .0)) (λ e. p .1 number′ side′ index′ e (q .0))
+
+-- # A table
+
+-- its lines one after the other
+abbrev pub firstOf : Table → Verdict
+firstOf t =
+    firstLine (t .before) Neither 0
+    ⊳ over (λ i. firstLine (t .ofPart i) Part i) 0 (t .parts)
+    ⊳ over (λ i. firstLine (t .ofRecord i) Record i) 0 (t .records)
+    ⊳ firstLine (t .after) Neither 0
+
+pub record Ordered (numbers : List ℕ) (t : Table) : Type 0 where
+  pub before : inOrder numbers Neither 1 3 (t .before) ≡ true
+  pub parts : (i : ℕ) → inOrder numbers Part 3 7 (t .ofPart i) ≡ true
+  pub records : (i : ℕ) → inOrder numbers Record 3 7 (t .ofRecord i) ≡ true
+  pub after : inOrder numbers Neither 7 10 (t .after) ≡ true
+
+module _ (numbers : List ℕ) (t : Table) (ordered : Ordered numbers t) where
+  abbrev Before : Offences
+  Before = Fault (t .before) Neither 0
+
+  abbrev Parts : Offences
+  Parts = Faults (t .ofPart) Part 0 (t .parts)
+
+  abbrev Records : Offences
+  Records = Faults (t .ofRecord) Record 0 (t .records)
+
+  abbrev After : Offences
+  After = Fault (t .after) Neither 0
+
+  staged-before : (number : ℕ) (side : Side) (index : ℕ) → Before number side index → stage number side ≤ 0
+  staged-before number side index o =
+      let h : number < 3 = broken-fits numbers Neither 1 3 (t .before) number (ordered .before) (o .2) .below in
+      rw (o .0, lt-ltb number 3 h) (omega arith)
+
+  staged-after : (number : ℕ) (side : Side) (index : ℕ) → After number side index → 2 < stage number side
+  staged-after number side index o =
+      let h : 7 ≤ number = broken-fits numbers Neither 7 10 (t .after) number (ordered .after) (o .2) .from in
+      let l : 3 ≤ number = omega arith in
+      rw (o .0, le-ltb number 3 l) (omega arith)
+
+  staged-records : (number : ℕ) (side : Side) (index : ℕ) → Records number side index → stage number side ≡ 2
+  staged-records number side index o = ap (stage number) (o .0)
+
+  staged-parts : (number : ℕ) (side : Side) (index : ℕ) → Parts number side index → stage number side ≡ 1
+  staged-parts number side index o = ap (stage number) (o .0)
+
+  from-records : (number : ℕ) (side : Side) (index : ℕ) → Either Records After number side index → 1 < stage number side
+  from-records number side index (inl o) = omega (arith, staged-records number side index o)
+  from-records number side index (inr o) = omega (arith, staged-after number side index o)
+
+  from-parts : (number : ℕ) (side : Side) (index : ℕ) → Either Parts (Either Records After) number side index → 0 < stage number side
+  from-parts number side index (inl o) = omega (arith, staged-parts number side index o)
+  from-parts number side index (inr o) = omega (arith, from-records number side index o)
+
+  listed : (number : ℕ) (side : Side) (index : ℕ) → Either Before (Either Parts (Either Records After)) number side index → Offends t number side index
+  listed number side index (inl (s, i, b)) =
+      subst (λ (q : Side). Offends t number q index) (sym s) (i, breaks-append (t .before) (t .after) number ∙ rw b)
+  listed number side index (inr (inl (s, l, h, b))) = subst (λ (q : Side). Offends t number q index) (sym s) (omega arith, b)
+  listed number side index (inr (inr (inl (s, l, h, b)))) = subst (λ (q : Side). Offends t number q index) (sym s) (omega arith, b)
+  listed number side index (inr (inr (inr (s, i, b)))) =
+      subst (λ (q : Side). Offends t number q index) (sym s) (i, breaks-append (t .before) (t .after) number ∙ rw b (or-true (breaks (t .before) number)))
+
+  parted : (number : ℕ) (side : Side) (index : ℕ) → Offends t number side index → Either Before (Either Parts (Either Records After)) number side index
+  parted number Neither index (i, b) =
+      ⊎-elim (λ h. inl (refl, i, h)) (λ h. inr (inr (inr (refl, i, h))))
+      (either (breaks (t .before) number) (breaks (t .after) number) (sym (breaks-append (t .before) (t .after) number) ∙ b))
+  parted number Part index (h, b) = inr (inl (refl, omega arith, omega arith, b))
+  parted number Record index (h, b) = inr (inr (inl (refl, omega arith, omega arith, b)))
+
+  first-judges : Judges (Offends t) (firstOf t)
+  first-judges =
+      let parts : Verdict = over (λ i. firstLine (t .ofPart i) Part i) 0 (t .parts) in
+      let records : Verdict = over (λ i. firstLine (t .ofRecord i) Record i) 0 (t .records) in
+      let after : Verdict = firstLine (t .after) Neither 0 in
+      same-judges (Either Before (Either Parts (Either Records After))) (Offends t) (firstOf t) listed parted
+      (then-judges Before (Either Parts (Either Records After)) (firstLine (t .before) Neither 0) (parts ⊳ records ⊳ after)
+      (by-stage Before (Either Parts (Either Records After)) 0 staged-before from-parts)
+      (lines-judge numbers Neither 0 1 3 (t .before) (ordered .before))
+      (then-judges Parts (Either Records After) parts (records ⊳ after)
+      (by-stage Parts (Either Records After) 1 (λ n s i o. omega (arith, staged-parts n s i o)) from-records)
+      (over-judges numbers Part 3 7 (t .ofPart) (ordered .parts) (λ n m. refl) (t .parts) 0)
+      (then-judges Records After records after
+      (by-stage Records After 2 (λ n s i o. omega (arith, staged-records n s i o)) staged-after)
+      (over-judges numbers Record 3 7 (t .ofRecord) (ordered .records) (λ n m. refl) (t .records) 0)
+      (lines-judge numbers Neither 0 7 10 (t .after) (ordered .after)))))
+
+  offence-listed : (number : ℕ) (side : Side) (index : ℕ) → Offends t number side index → (member numbers number ≡ true) × (member (sideNumbers side) number ≡ true)
+  offence-listed number Neither index (i, b) =
+      ⊎-elim (λ h. told (broken-fits numbers Neither 1 3 (t .before) number (ordered .before) h))
+      (λ h. told (broken-fits numbers Neither 7 10 (t .after) number (ordered .after) h))
+      (either (breaks (t .before) number) (breaks (t .after) number) (sym (breaks-append (t .before) (t .after) number) ∙ b))
+  offence-listed number Part index (h, b) = told (broken-fits numbers Part 3 7 (t .ofPart index) number (ordered .parts index) b)
+  offence-listed number Record index (h, b) = told (broken-fits numbers Record 3 7 (t .ofRecord index) number (ordered .records index) b)
+
+  judges-carries : (v : Verdict) → Judges (Offends t) v → Carries numbers t v
+  judges-carries Accepted j = tt
+  judges-carries (Refused number side index) j =
+      let l : _ = offence-listed number side index (j .0) in
+      (l .0, l .1, j .0 .0)
+
+  -- The law: a call that looks for the lines one after the other says what the table says.
+  pub by-table : (v : Verdict) → v ≡ firstOf t → ByTable numbers t v
+  by-table v e =
+      let j : Judges (Offends t) v = subst (Judges (Offends t)) (sym e) first-judges in
+      record {
+        first = j;
+        only = λ w q. judges-unique (Offends t) w v q j;
+        lower = λ number side index r number′ l o. (subst (Judges (Offends t)) r j) .1 number′ side index (lower-earlier side index number number′ l) o;
+        carries = judges-carries v j;
+      }

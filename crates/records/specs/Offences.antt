@@ -1,0 +1,170 @@
+-- Document 01's table of refusals as a table: its lines about the whole, about each part and about each record, which of them are broken,
+-- and the order in which they are looked for. `verdict` of Refusals says how the check goes; `ByTable` says what it comes to, of the
+-- check and of every other call that refuses.
+use Prim.Native.Nat.{ℕ, zero, suc, _+_, _<_}
+use mathlib.Core.Path.{_≡_}
+use mathlib.Core.Bool.{Bool, true, false, cond, _&&_, _||_}
+use mathlib.Core.List.{List, [], _∷_, _++_}
+use mathlib.Core.Logic.{_⊎_}
+use lib.Dec.{eqb, ltb}
+use lib.ListN.{length}
+use Rattle.records.specs.Text.{Text, cell, rowOf, partOf, recordLengths, partLengths}
+use Rattle.records.specs.Refusals.{isKhmer, member, tooLong, uneven, badScalar, outside, partCodes, recordClasses, recordMarks, badRun, barred, badSign, coded, mark}
+use Rattle.records.specs.Numbers.{numberOf}
+use Rattle.records.specs.declared.Row.{Row}
+use Rattle.records.specs.declared.PartRow.{PartRow}
+use Rattle.records.specs.declared.Side.{Side}
+use Rattle.records.specs.declared.Side.the-variants.{Record, Part, Neither}
+use Rattle.records.specs.declared.Parser.{Parser}
+use Rattle.records.specs.declared.Parser.the-variants.{Complex, Khmer}
+use Rattle.records.specs.declared.Verdict.{Verdict}
+use Rattle.records.specs.declared.Verdict.the-variants.{Accepted, Refused}
+use Rattle.classes.specs.WordBreak as WordBreak
+
+-- # Tables
+
+-- a line of the table: its number, and whether it is broken
+pub record Line : Type 0 where
+  pub number : ℕ
+  pub broken : Bool
+
+abbrev pub line : ℕ → Bool → Line
+line number broken = record { number = number; broken = broken }
+
+-- whether the line of a number is broken
+abbrev pub breaks : List Line → ℕ → Bool
+breaks [] number = false
+breaks (l ∷ ls) number = eqb (l .number) number && l .broken || breaks ls number
+
+-- "1 and 2 come first. Then 3, 4, 6 over parts by rising index, then 3, 4, 5, 6 over records by rising index, then 7, 8, 9."
+pub record Table : Type 0 where
+  pub before : List Line
+  pub parts : ℕ
+  pub ofPart : ℕ → List Line
+  pub records : ℕ
+  pub ofRecord : ℕ → List Line
+  pub after : List Line
+
+-- # Offences
+
+-- the lines about a record, about a part, or about neither
+abbrev pub linesAt : Table → Side → ℕ → List Line
+linesAt t Neither index = t .before ++ t .after
+linesAt t Part index = t .ofPart index
+linesAt t Record index = t .ofRecord index
+
+-- "3 to 6 carry the index and say record or part; the others carry 0."
+abbrev pub Within : Table → Side → ℕ → Type 0
+Within t Neither index = index ≡ 0
+Within t Part index = index < t .parts
+Within t Record index = index < t .records
+
+-- the line of this number is broken there
+abbrev pub Offends : Table → ℕ → Side → ℕ → Type 0
+Offends t number side index = Within t side index × (breaks (linesAt t side index) number ≡ true)
+
+-- # Their order
+
+-- what is about neither comes first with 1 and 2, and last with 7, 8 and 9
+abbrev pub stage : ℕ → Side → ℕ
+stage number Neither = cond (ltb number 3) 0 3
+stage number Part = 1
+stage number Record = 2
+
+-- "by rising index"; "Within one index the lower number wins."
+abbrev pub Earlier : ℕ → Side → ℕ → ℕ → Side → ℕ → Type 0
+Earlier number side index number′ side′ index′ =
+    (stage number side < stage number′ side′)
+    ⊎ ((stage number side ≡ stage number′ side′) × ((index < index′) ⊎ ((index ≡ index′) × (number < number′))))
+
+-- # What a verdict says
+
+-- no offence, or the first one: this is one, and none comes earlier
+abbrev pub Judges : (ℕ → Side → ℕ → Type 0) → Verdict → Type 0
+Judges offends Accepted = (number : ℕ) (side : Side) (index : ℕ) → offends number side index → ⊥
+Judges offends (Refused number side index) =
+    offends number side index
+    × ((number′ : ℕ) (side′ : Side) (index′ : ℕ) → Earlier number′ side′ index′ number side index → offends number′ side′ index′ → ⊥)
+
+-- the numbers that go with a side: 5 is about records alone
+abbrev pub sideNumbers : Side → List ℕ
+sideNumbers Neither = 1 ∷ 2 ∷ 7 ∷ 8 ∷ 9 ∷ []
+sideNumbers Part = 3 ∷ 4 ∷ 6 ∷ []
+sideNumbers Record = 3 ∷ 4 ∷ 5 ∷ 6 ∷ []
+
+-- a refusal has one of the call's numbers, which goes with its side, and its index is of that side
+abbrev pub Carries : List ℕ → Table → Verdict → Type 0
+Carries numbers t Accepted = Unit
+Carries numbers t (Refused number side index) =
+    (member numbers number ≡ true) × (member (sideNumbers side) number ≡ true) × Within t side index
+
+-- all of it, of a call that can give these numbers: "Given exactly when", so that no other verdict would be right
+pub record ByTable (numbers : List ℕ) (t : Table) (v : Verdict) : Type 0 where
+  pub first : Judges (Offends t) v
+  pub only : (w : Verdict) → Judges (Offends t) w → w ≡ v
+  pub lower : (number : ℕ) (side : Side) (index : ℕ) → v ≡ Refused number side index → (number′ : ℕ) → number′ < number → Offends t number′ side index → ⊥
+  pub carries : Carries numbers t v
+
+-- "complex only", "complex with Khmer"
+pub record Asks (parser : Parser) (v : Verdict) : Type 0 where
+  pub six : numberOf v ≡ 6 → (parser ≡ Complex) ⊎ (parser ≡ Khmer)
+  pub seven : numberOf v ≡ 7 → parser ≡ Khmer
+
+-- # The check's table
+
+abbrev pub partLines : Parser → PartRow → List Line
+partLines parser p =
+    line 3 (badScalar (p .scalar)) ∷ line 4 (outside (partCodes p)) ∷ line 6 (barred parser (p .scalar) (p .uclass)) ∷ []
+
+abbrev pub recordLines : Parser → ℕ → Row → List Line
+recordLines parser parts r =
+    line 3 (badScalar (r .scalar))
+    ∷ line 4 (outside (recordClasses r) || outside (recordMarks r))
+    ∷ line 5 (badRun r parts)
+    ∷ line 6 (barred parser (r .scalar) (r .uclass))
+    ∷ []
+
+abbrev pub lengthLines : List ℕ → List ℕ → List Line
+lengthLines records parts = line 1 (tooLong records || tooLong parts) ∷ line 2 (uneven records || uneven parts) ∷ []
+
+abbrev pub badSignAt : Text → ℕ → Bool
+badSignAt t i =
+    badSign (cell (t .records .decomposes) i) (cell (t .records .scalars) i) (cell (t .records .counts) i)
+    (cell (t .parts .pscalars) (cell (t .records .firsts) i))
+
+-- whether one of the n indices from i on is such
+unfoldable pub someFrom : (ℕ → Bool) → ℕ → ℕ → Bool
+someFrom p i zero = false
+someFrom p i (suc n) = p i || someFrom p (i + 1) n
+
+abbrev pub signLine : Parser → Text → Line
+signLine parser t = line 7 (isKhmer parser && someFrom (badSignAt t) 0 (length (t .records .scalars)))
+
+-- with the lines that a call adds: 8, 9
+abbrev pub tableOf : Parser → Text → List Line → Table
+tableOf parser t more =
+    record {
+      before = lengthLines (recordLengths (t .records)) (partLengths (t .parts));
+      parts = length (t .parts .pscalars);
+      ofPart = λ i. partLines parser (partOf (t .parts) i);
+      records = length (t .records .scalars);
+      ofRecord = λ i. recordLines parser (length (t .parts .pscalars)) (rowOf (t .records) i);
+      after = signLine parser t ∷ more;
+    }
+
+-- # The word run's table
+
+abbrev pub wordLines : List ℕ → List ℕ → ℕ → List Line
+wordLines words pictographs i = line 4 (outside (coded (cell words i) WordBreak.len ∷ mark (cell pictographs i) ∷ [])) ∷ []
+
+-- "The word run takes two columns (word class, pictograph) and checks 1, 2, 4 and 9, in that order"; 9 is the run's own
+abbrev pub wordTableOf : List ℕ → List ℕ → List Line → Table
+wordTableOf words pictographs more =
+    record {
+      before = lengthLines (length words ∷ length pictographs ∷ []) [];
+      parts = 0;
+      ofPart = λ i. [];
+      records = length words;
+      ofRecord = wordLines words pictographs;
+      after = more;
+    }

@@ -1,0 +1,50 @@
+-- "Where an answer is an enum, a definition gives this paper's number and values for each case of the enum": what a call met. And the
+-- lines of the table of refusals that are the stepping call's and the full run's own.
+use Prim.Native.Nat.{ℕ, _*_, _<_}
+use mathlib.Core.Path.{_≡_}
+use mathlib.Core.List.{List}
+use lib.Dec.{ltb}
+use lib.ListN.{length}
+use Rattle.classes.specs.declared.Mode.{Mode}
+use Rattle.records.specs.Text.{Text}
+use Rattle.records.specs.Offences.{Line, line}
+use Rattle.records.specs.declared.Parser.{Parser}
+use Rattle.records.specs.declared.Verdict.{Verdict}
+use Rattle.records.specs.declared.Verdict.the-variants.{Accepted, Refused}
+use Rattle.tokens.specs.Tokens.{streamOf}
+use Rattle.segment.specs.declared.Segmenter.{Segmenter}
+use Rattle.segment.specs.declared.Answer.{Answer}
+use Rattle.segment.specs.declared.What.{What}
+use Rattle.segment.specs.declared.What.the-variants.{Found, Over, Bad}
+use Rattle.segment.specs.Calls.{called, refusal, end, found}
+
+-- # What a call met
+
+-- as a number: a cluster, the end, a refusal
+abbrev pub whatCode : What → ℕ
+whatCode Found = 0
+whatCode Over = 1
+whatCode (Bad number side index) = 2
+
+-- the refusal, with the table's number, its side and its index
+abbrev pub refusalIn : What → Verdict
+refusalIn Found = Accepted
+refusalIn Over = Accepted
+refusalIn (Bad number side index) = Refused number side index
+
+-- the whole answer: before the end "the next place, the cluster, and how many tokens the call passed"; "At the end it hands back the
+-- end, an empty cluster and 0"; with a refusal the place unchanged, the empty cluster and 0
+abbrev pub Met : Segmenter → List ℕ → Answer → What → Type 0
+Met s stream a Found = (s .place .at < length stream) × (a ≡ found s stream (called (s .parser) (s .mode) stream (s .place .at)))
+Met s stream a Over = (s .place .at ≡ length stream) × (a ≡ end s)
+Met s stream a (Bad number side index) = a ≡ refusal s number side index
+
+-- # The calls' own lines
+
+-- 8: "the place is neither a token nor the end"
+abbrev pub placeLine : Segmenter → Text → Line
+placeLine s t = line 8 (ltb (length (streamOf (s .mode) (s .parser) t)) (s .place .at))
+
+-- 9: "the shortest output column too short", "fewer than twice as many cells as tokens"
+abbrev pub roomLine : Parser → Mode → Text → ℕ → Line
+roomLine parser mode t cells = line 9 (ltb cells (2 * length (streamOf mode parser t)))

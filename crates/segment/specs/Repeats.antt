@@ -1,0 +1,66 @@
+-- What demand 3 says of the answers of the stepping calls, in what a caller sees: the place, the passed count and the cluster. "A token
+-- is repeated at the two places document 01 names, there once, and nowhere else."
+use Prim.Native.Nat.{ℕ, zero, suc, _+_}
+use mathlib.Core.Bool.{Bool, true, false, cond}
+use mathlib.Core.List.{List, [], _∷_, _++_, map}
+use lib.Dec.{eqb}
+use Rattle.classes.specs.declared.Mode.{Mode}
+use Rattle.classes.specs.declared.Mode.the-variants.{Crate, Whole}
+use Rattle.records.specs.Text.{Text}
+use Rattle.records.specs.declared.Parser.{Parser}
+use Rattle.records.specs.declared.Parser.the-variants.{Simple, Myanmar, Complex, Khmer}
+use Rattle.parse.specs.declared.Pushed.{Pushed}
+use Rattle.parse.specs.declared.Cluster.{Cluster}
+use Rattle.parse.specs.Cover.{charactersOf, butLast}
+use Rattle.myanmar.specs.Repeat as Myanmar-repeat
+use Rattle.segment.specs.declared.Segmenter.{Segmenter}
+use Rattle.segment.specs.declared.Answer.{Answer}
+use Rattle.segment.specs.declared.What.{What}
+use Rattle.segment.specs.declared.What.the-variants.{Found, Over, Bad}
+use Rattle.segment.specs.Calls.{nextOf}
+
+-- Repeat (b): of the four parsers Myanmar alone has it, at a kinzi behind which the text ends.
+abbrev pub repeatB : Parser → List ℕ → ℕ → Bool
+repeatB Simple stream at = false
+repeatB Myanmar stream at = Myanmar-repeat.repeatB stream at
+repeatB Complex stream at = false
+repeatB Khmer stream at = false
+
+-- Whether a call from a place repeats a token: in crate mode by repeat (b), or by repeat (a), with "a cluster of 32"; in whole mode never.
+abbrev pub repeated : Mode → Parser → List ℕ → ℕ → Cluster → Bool
+repeated Whole parser stream at c = false
+repeated Crate parser stream at c = cond (repeatB parser stream at) true (eqb (c .len) 32)
+
+-- the characters of its cluster, without the repeat
+abbrev pub unrepeated : Mode → Parser → List ℕ → ℕ → Cluster → List Pushed
+unrepeated mode parser stream at c = cond (repeated mode parser stream at c) (butLast c) (charactersOf c)
+
+-- what a call that finds a cluster is followed by
+abbrev pub whenFound : What → List Answer → List Answer
+whenFound Found later = later
+whenFound Over later = []
+whenFound (Bad number side index) later = []
+
+-- the answers of the stepping calls from a state on, each from the state that the one before handed back, up to the first that finds no
+-- cluster; n at most
+unfoldable pub answers : ℕ → Segmenter → Text → List Answer
+answers zero s t = []
+answers (suc n) s t =
+    let a = nextOf s t in
+    let later = answers n (a .state) t in
+    whenFound (a .what) (a ∷ later)
+
+-- all characters of answers, and all without the repeats; the first call was from this place
+unfoldable pub allCharacters : List Answer → List Pushed
+allCharacters [] = []
+allCharacters (a ∷ later) = charactersOf (a .cluster) ++ allCharacters later
+
+unfoldable pub allUnrepeated : Mode → Parser → List ℕ → ℕ → List Answer → List Pushed
+allUnrepeated mode parser stream at [] = []
+allUnrepeated mode parser stream at (a ∷ later) =
+    unrepeated mode parser stream at (a .cluster) ++ allUnrepeated mode parser stream ((a .state) .place .at) later
+
+-- a column of a full run, out of the answers: a value for each pushed character, by the number of its cluster
+unfoldable pub columnIn : (ℕ → Pushed → ℕ) → ℕ → List Answer → List ℕ
+columnIn f k [] = []
+columnIn f k (a ∷ later) = map (f k) (charactersOf (a .cluster)) ++ columnIn f (k + 1) later
