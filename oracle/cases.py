@@ -1,5 +1,8 @@
-"""The layout of cases and answers (the grammar is in README.md) around the reading."""
+#!/usr/bin/env python3
+"""The layout of cases and answers (the grammar is in README.md) around the reading. As a command
+it reads cases from standard input and prints the reading's answers, one line for each case."""
 
+import argparse
 import re
 import sys
 from functools import lru_cache
@@ -155,5 +158,10 @@ def answers(lines):
 
 
 def main():
+    argparse.ArgumentParser(description=__doc__).parse_args()
     lines = (line.decode("latin-1").removesuffix("\n") for line in sys.stdin.buffer)
     sys.stdout.writelines(f"{line}\n" for line in answers(lines))
+
+
+if __name__ == "__main__":
+    main()

@@ -1,4 +1,9 @@
-"""The sixteen marked cases of document 01, as its table has them."""
+#!/usr/bin/env python3
+"""The sixteen marked cases of document 01, as its table has them. As a command it prints whether
+they hold of the reading, P01 ok to P16 ok, and fails where one does not."""
+
+import argparse
+import sys
 
 import reading
 from reading import CLUSTER_BREAK, CRATE, MYANMAR, USE, WHOLE, WORD, Part, Record, Refusal
@@ -83,7 +88,12 @@ def marked_cases():
 
 
 def main():
+    argparse.ArgumentParser(description=__doc__).parse_args()
     results = list(marked_cases())
     for number, holds in enumerate(results, 1):
         print(f"P{number:02} {'ok' if holds else 'fails'}")
     return 0 if all(results) and len(results) == 16 else 1
+
+
+if __name__ == "__main__":
+    sys.exit(main())

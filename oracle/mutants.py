@@ -46,9 +46,7 @@ def change(node):
 
 
 def unchanged():
-    tree = ast.parse((HERE / "reading.py").read_text())
-    tree.body = [node for node in tree.body if not isinstance(node, ast.If)]
-    return tree
+    return ast.parse((HERE / "reading.py").read_text())
 
 
 def program(tree):

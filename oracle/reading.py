@@ -1,15 +1,11 @@
-#!/usr/bin/env python3
 """An independent reading of document 01: both modes, the words, the refusals.
 
 Written from document 01's text, to be held beside it; sentences in quotation marks are its
 own. What each parser accepts is read from the Rust, function by function ("in crate mode
-document 000 decides"). The layout of cases and answers is in cases.py.
-
-    reading.py < CASES      one line of answers for each case
-    reading.py --marked     P01 ok … P16 ok
+document 000 decides"). It knows nothing of the layout of cases and answers, which is in
+cases.py; cases.py and marked.py are the commands that ask it.
 """
 
-import sys
 from functools import lru_cache
 from typing import NamedTuple
 
@@ -705,12 +701,3 @@ def word_run(records, cells):
         answer, state = checked_word_step(state, word_class, pictograph, next_class)
         answers.append(answer)
     return answers
-
-
-if __name__ == "__main__":
-    import cases
-    import marked
-
-    if sys.argv[1:] == ["--marked"]:
-        sys.exit(marked.main())
-    cases.main()
