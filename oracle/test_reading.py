@@ -1,13 +1,18 @@
 #!/usr/bin/env python3
-"""What the readings of document 01 say of single texts, and the refusals that a case cannot
-hold (columns of different lengths)."""
+"""What the readings of document 01 say of single texts, the refusals that a case cannot hold
+(columns of different lengths), and that the reading's lists of codes are those of crates/classes."""
 
+import pathlib
+import sys
 import unittest
 
 import cases
 import generate
 import reading
 from generate import EMOJI, EMOJI_TAIL, JOINER, KINZI, MYANMAR_BY_KIND, USE_BY_KIND, case, record, whole
+
+sys.path.append(str(pathlib.Path(__file__).resolve().parent.parent / "tools"))
+from class_lists import class_list
 
 THREE = [choices[0] for choices in KINZI]
 CR, LF = generate.STANDING_ALONE[:2]
@@ -22,6 +27,15 @@ def clusters(line):
 
 def classes(line):
     return [shapes for shapes, _ in clusters(line)]
+
+
+class Lists(unittest.TestCase):
+    def test_codes(self):
+        lists = {"cluster_break": reading.CLUSTER_BREAK, "use_class": reading.USE, "myanmar_class": reading.MYANMAR,
+                 "category": reading.CATEGORY, "word_break": reading.WORD}
+        for name, read in lists.items():
+            with self.subTest(name):
+                self.assertEqual([word.lower() for word in class_list(name).codes], [word.lower() for word in read])
 
 
 class Lengths(unittest.TestCase):

@@ -10,9 +10,7 @@ text by document 01's definition must agree; any other may differ where an entry
 differences says so. Counts the lines for each entry; fails where a difference has none.
 """
 
-import bz2
 import collections
-import gzip
 import pathlib
 import re
 import subprocess
@@ -22,42 +20,12 @@ import laws
 from generate import case, record, word_case
 from reading import WORD
 
-GRAPHEME_NAMES = {"Control": "CN", "Extend": "EX", "SpacingMark": "SM", "Regional_Indicator": "RI", "Prepend": "PP"}
-WORD_NAMES = {"Newline": "NL", "Format": "FO", "Katakana": "KA", "Hebrew_Letter": "HL", "Single_Quote": "SQ",
-              "Double_Quote": "DQ", "MidLetter": "ML", "MidNum": "MN", "Numeric": "NU", "ExtendNumLet": "EX",
-              "Regional_Indicator": "RI"}
+# the tools read Unicode's files too, in the folder beside this one
+sys.path.append(str(pathlib.Path(__file__).resolve().parent.parent / "tools"))
+import property_files
 
 
 # ---- The published files --------------------------------------------------------------------
-
-
-def published(folder, name):
-    """The lines of a file without comments, compressed or not."""
-    for suffix, opening in (("", open), (".gz", gzip.open), (".bz2", bz2.open)):
-        path = pathlib.Path(folder) / (name + suffix)
-        if path.is_file():
-            with opening(path, "rt", encoding="utf-8") as file:
-                return [line for line in (line.split("#")[0].strip() for line in file) if line]
-    raise SystemExit(f"{name} is not in the folder")
-
-
-def property_values(folder, name, names):
-    values = {}
-    for line in published(folder, name):
-        scalars, value = (field.strip() for field in line.split(";"))
-        first, _, last = scalars.partition("..")
-        for scalar in range(int(first, 16), int(last or first, 16) + 1):
-            values[scalar] = names.get(value, value)
-    return values
-
-
-def pictographs(folder):
-    lines = [line for line in published(folder, "emoji/emoji-data.txt") if line.endswith("Extended_Pictographic")]
-    found = set()
-    for line in lines:
-        first, _, last = line.split(";")[0].strip().partition("..")
-        found.update(range(int(first, 16), int(last or first, 16) + 1))
-    return found
 
 
 class Line:
@@ -72,13 +40,16 @@ class Line:
         self.marks = [int(scalar in marks) for scalar in self.scalars]
 
 
+def published(folder, name, values, other, marks):
+    """The lines of a test file; a scalar that the values lack has the other one."""
+    return [Line(text, values, other, marks) for text in property_files.lines(folder, f"auxiliary/{name}.txt")]
+
+
 def test_lines(folder):
     """The grapheme lines and the word lines."""
-    marks = pictographs(folder)
-    graphemes = property_values(folder, "auxiliary/GraphemeBreakProperty.txt", GRAPHEME_NAMES)
-    words = property_values(folder, "auxiliary/WordBreakProperty.txt", WORD_NAMES)
-    return ([Line(text, graphemes, "XX", marks) for text in published(folder, "auxiliary/GraphemeBreakTest.txt")],
-            [Line(text, words, "Other", marks) for text in published(folder, "auxiliary/WordBreakTest.txt")])
+    marks = property_files.pictographs(folder)
+    return (published(folder, "GraphemeBreakTest", property_files.grapheme_breaks(folder), "XX", marks),
+            published(folder, "WordBreakTest", property_files.word_breaks(folder), "Other", marks))
 
 
 def cluster_case(line):
