@@ -11,9 +11,9 @@ file says before each character, ÷ as 1 and × as 0.
 
 import itertools
 import pathlib
-import subprocess
 import sys
 
+import programs
 import uax29
 import unicode
 from reading import CLUSTER_BREAK, WORD
@@ -55,8 +55,7 @@ def hold(command):
     count = faults = 0
     lines = pairs(ruled(uax29.cluster_texts(), uax29.is_cluster_start), ruled(uax29.word_texts(), uax29.is_word_start))
     while batch := list(itertools.islice(lines, BATCH)):
-        data = "".join(f"{question}\n" for question, _ in batch)
-        answers = subprocess.run(command, input=data, stdout=subprocess.PIPE, text=True, check=True).stdout.splitlines()
+        answers = programs.answers(command, (question for question, _ in batch))
         for (question, stated), answer in zip(batch, answers, strict=True):
             count += 1
             if answer != stated:

@@ -15,8 +15,9 @@ import subprocess
 import sys
 
 import lists
+import programs
+import rust_judge
 
-HERE = pathlib.Path(__file__).resolve().parent
 FILES = ("simple.rs", "myanmar.rs", "complex.rs", "analyze.rs")
 
 
@@ -24,15 +25,12 @@ class Coverage:
     """Runs lines of crate mode through the counting build."""
 
     def __init__(self, folder):
-        build = [HERE / "build", folder, "--coverage"]
-        self.program = subprocess.run(build, stdout=subprocess.PIPE, text=True, check=True).stdout.strip()
+        self.program = rust_judge.built(folder, "--coverage")
         addresses = self.run([])[0].split()
         self.places = self.located(addresses)
 
     def run(self, lines):
-        data = "".join(f"{line}\n" for line in lines).encode("latin-1")
-        answers = subprocess.run([self.program], input=data, stdout=subprocess.PIPE, check=True).stdout
-        return answers.decode().split("\n")[:-1]
+        return programs.answers([self.program], lines)
 
     def located(self, addresses):
         """Block number to file and line, for the functions that the cases are about."""

@@ -13,10 +13,10 @@ differences says so. Counts the lines for each entry; fails where a difference h
 import collections
 import pathlib
 import re
-import subprocess
 import sys
 
 import laws
+import programs
 from generate import case, record, word_case
 from reading import WORD
 
@@ -255,9 +255,7 @@ def main():
         return 0
     if action == "check":
         return check_all(folder, sys.stdin.read().splitlines())
-    data = "".join(f"{line}\n" for line in all_cases(folder))
-    ran = subprocess.run(command, input=data, stdout=subprocess.PIPE, text=True, check=True)
-    return check_all(folder, ran.stdout.splitlines())
+    return check_all(folder, programs.answers(command, all_cases(folder)))
 
 
 if __name__ == "__main__":
