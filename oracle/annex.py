@@ -1,14 +1,11 @@
 #!/usr/bin/env python3
 """The published break test files of Unicode 15.0 as standard input and output of the program `annex`.
 
-    annex.py FOLDER write           writes both
-    annex.py FOLDER check           fails where what is stored is not what would be written
-    annex.py FOLDER run COMMAND…    holds the program COMMAND against uax29.py, a second writing of the rules, on its short texts
-
 A line of the input has G or W, then the class and the mark of each character; a line of the output has what the
 file says before each character, ÷ as 1 and × as 0.
 """
 
+import argparse
 import itertools
 import pathlib
 import sys
@@ -65,9 +62,20 @@ def hold(command):
     return min(faults, 1)
 
 
+def parse_options():
+    options = argparse.ArgumentParser(description=__doc__, formatter_class=argparse.RawDescriptionHelpFormatter)
+    options.add_argument("folder", help=unicode.FOLDER_HELP)
+    actions = options.add_subparsers(dest="action", required=True)
+    actions.add_parser("write", help="writes both to crates/annex")
+    actions.add_parser("check", help="fails where what is stored is not what would be written")
+    run = actions.add_parser("run", help="holds a program against uax29.py, a second writing of the rules, on its short texts")
+    programs.add_command(run)
+    return options.parse_args()
+
+
 def main():
-    folder, action, *command = sys.argv[1:]
-    return hold(command) if action == "run" else stored(folder, action)
+    options = parse_options()
+    return hold(options.command) if options.action == "run" else stored(options.folder, options.action)
 
 
 if __name__ == "__main__":

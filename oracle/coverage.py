@@ -1,18 +1,16 @@
 #!/usr/bin/env python3
 """Which blocks of the unchanged Rust files the cases take.
 
-    coverage.py FOLDER [CASES…]     FOLDER with the Rust files; by default all lists
-
 A block is one that LLVM makes without optimisation: each arm of a match and each failure of a
 `?` is one of its own. Prints, for each file, how many of the blocks that the parsers and
 `check_word` have are taken, and the lines of the others.
 """
 
+import argparse
 import collections
 import pathlib
 import re
 import subprocess
-import sys
 
 import lists
 import programs
@@ -62,11 +60,14 @@ def report(coverage, taken):
 
 
 def main():
-    folder, *files = sys.argv[1:]
-    coverage = Coverage(folder)
+    options = argparse.ArgumentParser(description=__doc__, formatter_class=argparse.RawDescriptionHelpFormatter)
+    options.add_argument("folder", help="has the Rust's sources (FOLDER/src/text/…)")
+    options.add_argument("cases", nargs="*", type=pathlib.Path, default=lists.REPLAYED[:1], help="files of cases, by default the fixed lists")
+    options = options.parse_args()
+    coverage = Coverage(options.folder)
     taken = set()
-    for file in files or lists.REPLAYED[:1]:
-        for blocks in coverage.blocks(pathlib.Path(file).read_text(encoding="latin-1").split("\n")[:-1]):
+    for file in options.cases:
+        for blocks in coverage.blocks(file.read_text(encoding="latin-1").split("\n")[:-1]):
             taken |= blocks
     report(coverage, taken)
 

@@ -1,8 +1,7 @@
 #!/usr/bin/env python3
 """Cases, seeded: random texts biased to the corners, exhaustive short texts, all word steps,
-damaged columns, full runs. Texts are in crate mode; `whole` turns a case into whole mode.
-
-    generate.py PART [--seed N] [--count N]     (PART as in PARTS below)
+damaged columns, full runs. Texts are in crate mode; `whole` turns a case into whole mode. Prints
+the cases of one part, one a line.
 """
 
 import argparse
@@ -880,10 +879,11 @@ def generate(part_, seed, count):
 
 
 def main():
-    options = argparse.ArgumentParser(description="Cases, one a line.")
-    options.add_argument("part", choices=[*RANDOM, *FIXED])
-    options.add_argument("--seed", type=int, default=1)
-    options.add_argument("--count", type=int, default=1000)
+    options = argparse.ArgumentParser(description=__doc__)
+    options.add_argument("part", choices=[*RANDOM, *FIXED], metavar="PART",
+                         help=f"random: {', '.join(RANDOM)}; always the same: {', '.join(FIXED)}")
+    options.add_argument("--seed", type=int, default=1, metavar="N", help="of a random part, by default %(default)s")
+    options.add_argument("--count", type=int, default=1000, metavar="N", help="of texts of a random part, by default %(default)s")
     chosen_ = options.parse_args()
     for line in generate(chosen_.part, chosen_.seed, chosen_.count):
         print(line)

@@ -1,10 +1,10 @@
 #!/usr/bin/env python3
 """Do the fixed lists notice a wrong reading? Each mutant has one name, one number or one test
-of reading.py changed; the lists have to answer otherwise in some line.
-
-    mutants.py      prints each mutant that no list notices, and the count
+of reading.py changed; the lists have to answer otherwise in some line. Prints each mutant that no
+list notices, and the count.
 """
 
+import argparse
 import ast
 import pathlib
 import resource
@@ -92,6 +92,7 @@ def is_noticed(code, pairs):
 
 
 def main():
+    argparse.ArgumentParser(description=__doc__).parse_args()
     signal.signal(signal.SIGALRM, out_of_time)
     resource.setrlimit(resource.RLIMIT_AS, (BYTES, BYTES))
     pairs = of_layout()

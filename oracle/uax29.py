@@ -1,11 +1,11 @@
 #!/usr/bin/env python3
 """UAX #29 of Unicode 15.0, rule by rule and looking back, to see that the entries of
 unicode.py are complete: beyond the published lines, every short text over small alphabets
-agrees with it, or differs under an entry; plain texts agree.
-
-    uax29.py FOLDER     FOLDER with the published files, which this file has to agree with first
+agrees with it, or differs under an entry; plain texts agree. The rules written here have to agree
+with the published lines first.
 """
 
+import argparse
 import collections
 import itertools
 import random
@@ -174,7 +174,9 @@ def published_faults(folder):
 
 
 def main():
-    faults = published_faults(sys.argv[1])
+    options = argparse.ArgumentParser(description=__doc__)
+    options.add_argument("folder", help=unicode.FOLDER_HELP)
+    faults = published_faults(options.parse_args().folder)
     print(f"published lines that these rules miss: {faults}")
     faults += hold("clusters", cluster_texts(), is_cluster_start, clusters, unicode.is_plain_cluster,
                    unicode.CLUSTER_ENTRIES)

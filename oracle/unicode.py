@@ -1,15 +1,12 @@
 #!/usr/bin/env python3
 """The published break test files of Unicode 15.0 as cases, and a checker of answers to them.
 
-    unicode.py FOLDER cases                 S lines, then W lines
-    unicode.py FOLDER check < ANSWERS       says of each line whether it agrees with the file
-    unicode.py FOLDER run COMMAND…          both at once: COMMAND reads cases, prints answers
-
-FOLDER has auxiliary/ and emoji/ as Debian's unicode-data lays them out. A line that is a plain
-text by document 01's definition must agree; any other may differ where an entry of the known
-differences says so. Counts the lines for each entry; fails where a difference has none.
+A line that is a plain text by document 01's definition must agree; any other may differ where an
+entry of the known differences says so. Counts the lines for each entry; fails where a difference
+has none.
 """
 
+import argparse
 import collections
 import pathlib
 import re
@@ -23,6 +20,8 @@ from reading import WORD
 # the tools read Unicode's files too, in the folder beside this one
 sys.path.append(str(pathlib.Path(__file__).resolve().parent.parent / "tools"))
 import property_files
+
+FOLDER_HELP = "has the files of Unicode 15.0 as Debian's unicode-data lays them out: auxiliary/ and emoji/"
 
 
 # ---- The published files --------------------------------------------------------------------
@@ -248,14 +247,25 @@ def all_cases(folder):
     return [*map(cluster_case, clusters), *map(words_case, words)]
 
 
+def parse_options():
+    options = argparse.ArgumentParser(description=__doc__, formatter_class=argparse.RawDescriptionHelpFormatter)
+    options.add_argument("folder", help=FOLDER_HELP)
+    actions = options.add_subparsers(dest="action", required=True)
+    actions.add_parser("cases", help="prints S lines, then W lines")
+    actions.add_parser("check", help="says of each answer in standard input whether it agrees with the file")
+    run = actions.add_parser("run", help="both at once, with a program that reads cases and prints answers")
+    programs.add_command(run)
+    return options.parse_args()
+
+
 def main():
-    folder, action, *command = sys.argv[1:]
-    if action == "cases":
-        print("\n".join(all_cases(folder)))
+    options = parse_options()
+    if options.action == "cases":
+        print("\n".join(all_cases(options.folder)))
         return 0
-    if action == "check":
-        return check_all(folder, sys.stdin.read().splitlines())
-    return check_all(folder, programs.answers(command, all_cases(folder)))
+    if options.action == "check":
+        return check_all(options.folder, sys.stdin.read().splitlines())
+    return check_all(options.folder, programs.answers(options.command, all_cases(options.folder)))
 
 
 if __name__ == "__main__":
