@@ -8,6 +8,7 @@ import subprocess
 import cases
 import generate
 import laws
+import real_labels
 import unicode
 
 KINDS = "SMCWwsmc"
@@ -145,15 +146,9 @@ class Comparison:
             expect("the program against the judges", line, judge, answer)
 
 
-def real_cases(folder):
-    """Real labels: case TAB answer, as the whole crate gave it."""
-    for file in sorted(folder.glob("*.txt")):
-        for line in file.read_text().splitlines():
-            yield line.split("\t")
-
-
-def compare_real(comparison, folder):
-    pairs = list(real_cases(folder))
+def compare_real(comparison):
+    """The real labels: the reading against the whole crate's answers, then both judges on them."""
+    pairs = real_labels.all_pairs()
     for line, answer in pairs:
         try:
             expect("real labels", line, answer, cases.answer(line))
