@@ -62,7 +62,8 @@ def report(coverage, taken):
 def main():
     options = argparse.ArgumentParser(description=__doc__, formatter_class=argparse.RawDescriptionHelpFormatter)
     options.add_argument("folder", help="has the Rust's sources (FOLDER/src/text/…)")
-    options.add_argument("cases", nargs="*", type=pathlib.Path, default=lists.REPLAYED[:1], help="files of cases, by default the fixed lists")
+    options.add_argument("cases", nargs="*", type=pathlib.Path, default=lists.REPLAYED[:1],
+                         help="files of cases, by default the fixed lists")
     options = options.parse_args()
     coverage = Coverage(options.folder)
     taken = set()

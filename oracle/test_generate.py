@@ -1,0 +1,84 @@
+#!/usr/bin/env python3
+"""That the generated cases are of the layout, the same for the same seed, and meet what they are for."""
+
+import itertools
+import unittest
+
+import cases
+import generate
+import laws
+import reading
+
+COUNT = 100
+
+
+def some(part, seed=1):
+    """The first cases of a part."""
+    return list(itertools.islice(generate.generate(part, seed, COUNT), COUNT))
+
+
+def refusal_numbers(lines):
+    """The numbers of the refusals that the reading gives to cases."""
+    answers = map(cases.answer, lines)
+    return {int(answer.split(" ")[1]) for answer in answers if answer.startswith("R ")}
+
+
+class Layout(unittest.TestCase):
+    def test_every_part_but_one_is_of_the_layout(self):
+        for part in {*generate.RANDOM, *generate.FIXED} - {"layout", "long"}:
+            for line in some(part):
+                with self.subTest(part, line=line[:200]):
+                    cases.answer(line)
+
+    def test_the_other_has_lines_of_every_sort(self):
+        lines = list(generate.not_of_layout())
+        answers = list(cases.answers(lines))
+        self.assertEqual(len(lines) - len(answers), sum(map(cases.is_skipped, lines)))
+        self.assertTrue(any(answer.startswith("? ") for answer in answers))
+        self.assertTrue(any(not answer.startswith("? ") for answer in answers))
+
+    def test_texts_are_in_crate_mode_and_have_a_twin(self):
+        for part in ("S", "M", "C", "runs-s", "runs-m", "runs-c", "runs-khmer", "places", "split-runs"):
+            for line in some(part):
+                self.assertEqual(line.split(";")[1], "crate")
+                self.assertEqual(generate.whole(line).replace("whole", "crate"), line)
+
+
+class Seeds(unittest.TestCase):
+    def test_the_same_seed_gives_the_same_cases(self):
+        for part in generate.RANDOM:
+            with self.subTest(part):
+                self.assertEqual(some(part), some(part))
+                self.assertEqual(len(some(part)), COUNT)
+                self.assertNotEqual(some(part), some(part, seed=2))
+
+
+class Meant(unittest.TestCase):
+    def test_refusals(self):
+        self.assertEqual(refusal_numbers(generate.refusals()), {3, 4, 5, 6, 7, 8, 9})
+        short = itertools.islice(generate.damaged_runs(), 2_000)
+        self.assertEqual(refusal_numbers(short), {3, 4, 5, 6})
+
+    def test_too_long(self):
+        too_long = [line for line in generate.long_refusals() if line.count(" ") == reading.LONGEST]
+        self.assertEqual(len(too_long), 8)
+        self.assertEqual({cases.answer(line) for line in too_long}, {"R 1 0 -"})
+
+    def test_the_edges_are_those_of_the_lists(self):
+        self.assertEqual(list(generate.RECORD_EDGES.values()), list(map(len, reading.RECORD_LISTS)))
+        self.assertEqual(list(generate.PART_EDGES.values()), list(map(len, reading.PART_LISTS)))
+
+    def test_random_texts_meet_the_repeats(self):
+        for part in "SMC":
+            with self.subTest(part):
+                self.assertFalse(all(laws.is_ordinary(cases.answer(line)) for line in some(part)))
+
+    def test_every_word_step_once(self):
+        steps = list(generate.word_steps())
+        states, records, following = 2 * 19 * 2 * 3, 19 * 2, 20
+        self.assertEqual(len(steps), states * records * following)
+        self.assertEqual(len(set(steps)), len(steps))
+
+
+if __name__ == "__main__":
+    unittest.main()

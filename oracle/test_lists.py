@@ -1,0 +1,68 @@
+#!/usr/bin/env python3
+"""That `replay-lists` and `mutants.py` notice wrong answers to the fixed lists."""
+
+import ast
+import sys
+import unittest
+from unittest import mock
+
+import cases
+import lists
+import loading
+import mutants
+import reading
+
+replay_lists = loading.command("oracle/replay-lists")
+# the answers themselves, as a program that does not look at the cases
+RIGHT = ["cat", str(lists.REPLAYED[1])]
+
+
+class Replay(unittest.TestCase):
+    def replay(self, *command):
+        with mock.patch.object(sys, "argv", ["replay-lists", *command]):
+            return loading.printed(replay_lists.main)
+
+    def test_agreement(self):
+        status, output = self.replay(*RIGHT)
+        self.assertEqual(status, 0)
+        self.assertRegex(output, r"^\d+ cases agree\n$")
+
+    def test_another_answer(self):
+        status, output = self.replay("sed", "2s/^/x/", RIGHT[1])
+        self.assertEqual(status, 1)
+        case, answer = list(lists.pairs())[1]
+        self.assertEqual(output, f"DIFFERS\n  case     {case}\n  expected {answer}\n  given    x{answer}\n")
+
+    def test_too_few_answers(self):
+        status, output = self.replay("head", "-n", "3", RIGHT[1])
+        self.assertEqual(status, 1)
+        self.assertTrue(output.startswith("DIFFERS: 3 answers to "), output)
+
+
+class Mutants(unittest.TestCase):
+    def test_one_change_at_each_site(self):
+        source = 'def f(a):\n    """Says."""\n    return a == 1 or a in ("x", True) or a < 2\n'
+        changed = []
+        for number in range(len(list(mutants.sites(ast.parse(source))))):
+            tree = ast.parse(source)
+            mutants.change(list(mutants.sites(tree))[number])
+            changed.append(ast.unparse(tree).splitlines()[-1].strip())
+        self.assertEqual(sorted(changed), sorted([
+            "return a != 1 or a in ('x', True) or a < 2",
+            "return a == 2 or a in ('x', True) or a < 2",
+            "return a == 1 or a not in ('x', True) or a < 2",
+            "return a == 1 or a in ('x changed', True) or a < 2",
+            "return a == 1 or a in ('x', False) or a < 2",
+            "return a == 1 or a in ('x', True) or a <= 2",
+            "return a == 1 or a in ('x', True) or a < 3"]))
+
+    def test_a_wrong_answer_is_noticed(self):
+        unchanged = mutants.program(mutants.unchanged())
+        # a mutant takes the reading's place for good; the other tests want the reading back
+        with mock.patch.dict(vars(reading)), mock.patch.dict(vars(cases)):
+            self.assertFalse(mutants.is_noticed(unchanged, [("W;1;0,0", "1")]))
+            self.assertTrue(mutants.is_noticed(unchanged, [("W;1;0,0", "0")]))
+
+
+if __name__ == "__main__":
+    unittest.main()
