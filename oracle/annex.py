@@ -5,7 +5,6 @@ A line of the input has G or W, then the class and the mark of each character; a
 file says before each character, ÷ as 1 and × as 0.
 """
 
-import argparse
 import itertools
 import pathlib
 import sys
@@ -62,19 +61,10 @@ def hold(command):
     return min(faults, 1)
 
 
-def parse_options():
-    options = argparse.ArgumentParser(description=__doc__, formatter_class=argparse.RawDescriptionHelpFormatter)
-    options.add_argument("folder", help=unicode.FOLDER_HELP)
-    actions = options.add_subparsers(dest="action", required=True)
-    actions.add_parser("write", help="writes both to crates/annex")
-    actions.add_parser("check", help="fails where what is stored is not what would be written")
-    run = actions.add_parser("run", help="holds a program against uax29.py, a second writing of the rules, on its short texts")
-    programs.add_command(run)
-    return options.parse_args()
-
-
 def main():
-    options = parse_options()
+    options = unicode.parse_options(__doc__, write="writes both to crates/annex",
+                                    check="fails where what is stored is not what would be written",
+                                    run="holds a program against uax29.py, a second writing of the rules, on its short texts")
     return hold(options.command) if options.action == "run" else stored(options.folder, options.action)
 
 

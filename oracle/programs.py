@@ -1,12 +1,6 @@
 """Programs that read lines and print lines."""
 
-import argparse
 import subprocess
-
-
-def add_command(options):
-    """The rest of a command line: a program, and all words that follow, which may look like options."""
-    options.add_argument("command", nargs=argparse.PARSER, metavar="COMMAND", help="the program and its words")
 
 
 def answers(command, lines):

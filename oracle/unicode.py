@@ -247,19 +247,23 @@ def all_cases(folder):
     return [*map(cluster_case, clusters), *map(words_case, words)]
 
 
-def parse_options():
-    options = argparse.ArgumentParser(description=__doc__, formatter_class=argparse.RawDescriptionHelpFormatter)
+def parse_options(description, **actions):
+    """A folder and one of the actions, each with its sentence; behind `run` a program and all words
+    that follow, which may look like options."""
+    options = argparse.ArgumentParser(description=description, formatter_class=argparse.RawDescriptionHelpFormatter)
     options.add_argument("folder", help=FOLDER_HELP)
-    actions = options.add_subparsers(dest="action", required=True)
-    actions.add_parser("cases", help="prints S lines, then W lines")
-    actions.add_parser("check", help="says of each answer in standard input whether it agrees with the file")
-    run = actions.add_parser("run", help="both at once, with a program that reads cases and prints answers")
-    programs.add_command(run)
+    parsers = options.add_subparsers(dest="action", required=True)
+    for action, about in actions.items():
+        parser = parsers.add_parser(action, help=about)
+        if action == "run":
+            parser.add_argument("command", nargs=argparse.PARSER, metavar="COMMAND", help="the program and its words")
     return options.parse_args()
 
 
 def main():
-    options = parse_options()
+    options = parse_options(__doc__, cases="prints S lines, then W lines",
+                            check="says of each answer in standard input whether it agrees with the file",
+                            run="both at once, with a program that reads cases and prints answers")
     if options.action == "cases":
         print("\n".join(all_cases(options.folder)))
         return 0
