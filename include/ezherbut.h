@@ -25,8 +25,8 @@
  *   3  a scalar above 10FFFF or in D800 to DFFF: side and index say where
  *   4  a code or a mark outside its list: side and index say where
  *   5  a count of parts above 3, or first part plus count above the number of parts: index says where
- *   6  complex parsers: U+034F with a USE class that they look for in a tail (CMBlw, SUB, H, FM, FAbv, FBlw, FPst, and those that
- *      begin with M, VA, VB, VP or VM): side and index say where
+ *   6  complex parsers: U+034F with a USE class that they look for behind the marks CMAbv of a base (CMBlw, SUB, H, FM,
+ *      FAbv, FBlw, FPst, and those that begin with M, VA, VB, VP or VM): side and index say where
  *   7  complex parser with Khmer: an unmarked U+17BE, 17BF, 17C0, 17C4 or 17C5 whose parts are not exactly one, U+17C1
  *   8  the place is neither a token nor the end; for words, a state that is none
  *   9  a column for the answer is too short
