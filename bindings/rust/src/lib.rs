@@ -2,7 +2,8 @@
 //! Rattle. Every call ends and stays inside its columns, for every input, and bad input gets a [`Refusal`], never a default.
 //!
 //! [`Text`] builds the columns of a text, [`Columns`] lends columns that are there already. [`Columns::clusters`] and [`Columns::words`]
-//! iterate. A call takes stack as include/ezherbut.h says: some 120 KiB at most.
+//! iterate. A call on a label of up to 256 tokens fits in 16 KiB of stack and a call on any text in 256 KiB; tests/stack.rs runs every
+//! call so. Measured: 13.5 KB and 115 KB at most, on x86-64 and on Arm.
 //!
 //! ```
 //! use ezherbut::codes::{category, cluster_break, myanmar_class, use_class, word_break};

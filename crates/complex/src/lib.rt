@@ -44,7 +44,7 @@ ghost use mathlib.Core.Bool.{true, false};
 ghost use mathlib.Core.Path.{_≡_};
 ghost use Rattle.classes.specs.UseClass.{HN};
 ghost use Rattle.parse.specs.Rule.{run, holds, while, is};
-ghost use Rattle.complex.specs.Grammar.{toShapeClass, byKind, baseVs, symbolMarks, consonantMarks, isCoeng, halant, opensHalant, halantBase, isVowelModifier, vowelModifier, medials, vowels, finals, syllable, markedSyllable, isSymbolMark, standardTail, standard, halantNumber, number, symbol, letter, cluster};
+ghost use Rattle.complex.specs.Grammar.{toShapeClass, byKind, baseVs, symbolMarks, consonantMarks, isCoeng, halant, opensHalant, halantBase, isVowelModifier, vowelModifier, medials, vowels, finals, isSymbolMark, standardTail, standard, halantNumber, letter, cluster};
 
 pub fn parse(s: Parse, text: &[u64], khmer: bool) -> Parse
     ensures { λ r. ⌜ r ≡ run (cluster khmer) (now (text .entry)) s ⌝ }
@@ -68,36 +68,29 @@ pub fn parse(s: Parse, text: &[u64], khmer: bool) -> Parse
 }
 
 // The arms from `B | GB` on.
-fn parse_letter(s: Parse, text: &[u64], khmer: bool) -> Parse
+fn parse_letter(mut s: Parse, text: &[u64], khmer: bool) -> Parse
     ensures { λ r. ⌜ r ≡ run (letter khmer) (now (text .entry)) s ⌝ }
 {
     if s.kind_is(text, B) {
-        return parse_standard(s, text, khmer, false);
+        s = parse_standard(s, text, khmer, false);
+        return s;
     }
     if s.kind_is(text, GB) {
-        return parse_standard(s, text, khmer, true);
+        s = parse_standard(s, text, khmer, true);
+        return s;
     }
     if s.kind_is(text, N) {
-        return parse_number(s, text);
+        s = accept_base(s, text);
+        s = parse_halant_numbers(s, text);
+        return s;
     }
     if s.kind_is(text, S) {
-        return parse_symbol(s, text);
+        s = accept_base(s, text);
+        s = accept_symbol_marks(s, text);
+        return s;
     }
-    parse_standard(s, text, khmer, false)
-}
-
-// The arm `N`.
-fn parse_number(s: Parse, text: &[u64]) -> Parse
-    ensures { λ r. ⌜ r ≡ run number (now (text .entry)) s ⌝ }
-{
-    parse_halant_numbers(accept_base(s, text), text)
-}
-
-// The arm `S`.
-fn parse_symbol(s: Parse, text: &[u64]) -> Parse
-    ensures { λ r. ⌜ r ≡ run symbol (now (text .entry)) s ⌝ }
-{
-    accept_symbol_marks(accept_base(s, text), text)
+    s = parse_standard(s, text, khmer, false);
+    s
 }
 
 // A base and its variation selector.
@@ -130,14 +123,17 @@ fn accept_by_kind(s: Parse, text: &[u64]) -> Parse
     s.accept_any_as(text, class)
 }
 
-fn parse_standard(s: Parse, text: &[u64], khmer: bool, symbol: bool) -> Parse
+fn parse_standard(mut s: Parse, text: &[u64], khmer: bool, symbol: bool) -> Parse
     ensures { λ r. ⌜ r ≡ run (standard khmer symbol) (now (text .entry)) s ⌝ }
 {
     if s.kind_in2(text, B, GB) {
-        let s = s.accept_any_as(text, Shape::Base);
-        return parse_standard_tail(s, text, khmer, symbol);
+        s = s.accept_any_as(text, Shape::Base);
+        s = parse_standard_tail(s, text, khmer, symbol);
+        return s;
     }
-    accept_by_kind(s.set_broken(text), text)
+    s = s.set_broken(text);
+    s = accept_by_kind(s, text);
+    s
 }
 
 fn is_symbol_mark(s: Parse, text: &[u64], symbol: bool) -> bool
@@ -149,41 +145,32 @@ fn is_symbol_mark(s: Parse, text: &[u64], symbol: bool) -> bool
     false
 }
 
-fn parse_standard_tail(s: Parse, text: &[u64], khmer: bool, symbol: bool) -> Parse
+fn parse_standard_tail(mut s: Parse, text: &[u64], khmer: bool, symbol: bool) -> Parse
     ensures { λ r. ⌜ r ≡ run (standardTail khmer symbol) (now (text .entry)) s ⌝ }
 {
-    let s = s.accept_as(text, VS, Shape::Vs);
+    s = s.accept_as(text, VS, Shape::Vs);
     if is_symbol_mark(s, text, symbol) {
-        return accept_symbol_marks(s, text);
+        s = accept_symbol_marks(s, text);
+        return s;
     }
-    parse_marked_syllable(s, text, khmer)
+    s = accept_consonant_marks(s, text);
+    s = parse_halant_bases(s, text, khmer);
+    s = accept_medials(s, text);
+    s = accept_vowels(s, text);
+    s = parse_vowel_modifiers(s, text);
+    s = accept_finals(s, text);
+    s
 }
 
-// `parse_standard_tail`, where it is no symbol.
-fn parse_marked_syllable(s: Parse, text: &[u64], khmer: bool) -> Parse
-    ensures { λ r. ⌜ r ≡ run (markedSyllable khmer) (now (text .entry)) s ⌝ }
-{
-    parse_syllable(accept_consonant_marks(s, text), text, khmer)
-}
-
-fn parse_syllable(s: Parse, text: &[u64], khmer: bool) -> Parse
-    ensures { λ r. ⌜ r ≡ run (syllable khmer) (now (text .entry)) s ⌝ }
-{
-    let s = parse_halant_bases(s, text, khmer);
-    let s = accept_medials(s, text);
-    let s = accept_vowels(s, text);
-    let s = parse_vowel_modifiers(s, text);
-    accept_finals(s, text)
-}
-
-fn accept_medials(s: Parse, text: &[u64]) -> Parse
+fn accept_medials(mut s: Parse, text: &[u64]) -> Parse
     ensures { λ r. ⌜ r ≡ run medials (now (text .entry)) s ⌝ }
 {
-    s.accept(text, MPre)
-        .accept(text, MAbv)
-        .accept(text, MBlw)
-        .accept(text, MBlw)
-        .accept(text, MPst)
+    s = s.accept(text, MPre);
+    s = s.accept(text, MAbv);
+    s = s.accept(text, MBlw);
+    s = s.accept(text, MBlw);
+    s = s.accept(text, MPst);
+    s
 }
 
 fn accept_vowels(s: Parse, text: &[u64]) -> Parse
@@ -256,18 +243,22 @@ fn opens_halant(s: Parse, text: &[u64]) -> bool
     s.kind_in2(text, SUB, H)
 }
 
-fn parse_halant_base(s: Parse, text: &[u64], khmer: bool) -> Parse
+fn parse_halant_base(mut s: Parse, text: &[u64], khmer: bool) -> Parse
     ensures { λ r. ⌜ r ≡ run (halantBase khmer) (now (text .entry)) s ⌝ }
 {
     if s.kind_is(text, SUB) {
-        let s = s.accept_any_as(text, Shape::Other);
-        return accept_consonant_marks(s, text);
+        s = s.accept_any_as(text, Shape::Other);
+        s = accept_consonant_marks(s, text);
+        return s;
     }
-    let s = accept_halant(s, text, khmer);
+    s = accept_halant(s, text, khmer);
     if s.kind_is(text, B) {
-        return accept_consonant_marks(accept_base(s, text), text);
+        s = accept_base(s, text);
+        s = accept_consonant_marks(s, text);
+        return s;
     }
-    s.stop(text)
+    s = s.stop(text);
+    s
 }
 
 fn parse_halant_bases(s: Parse, text: &[u64], khmer: bool) -> Parse
@@ -280,14 +271,16 @@ fn parse_halant_bases(s: Parse, text: &[u64], khmer: bool) -> Parse
     s
 }
 
-fn parse_halant_number(s: Parse, text: &[u64]) -> Parse
+fn parse_halant_number(mut s: Parse, text: &[u64]) -> Parse
     ensures { λ r. ⌜ r ≡ run halantNumber (now (text .entry)) s ⌝ }
 {
-    let s = s.accept_any_as(text, Shape::Halant);
+    s = s.accept_any_as(text, Shape::Halant);
     if s.kind_is(text, N) {
-        return accept_base(s, text);
+        s = accept_base(s, text);
+        return s;
     }
-    s.stop(text)
+    s = s.stop(text);
+    s
 }
 
 fn parse_halant_numbers(s: Parse, text: &[u64]) -> Parse

@@ -9,26 +9,30 @@ ghost use Prim.Native.Nat.{_+_};
 ghost use Rattle.classes.specs.MyanmarClass as class;
 ghost use Rattle.classes.specs.Scalar.{kinziFirsts};
 ghost use Rattle.parse.specs.Rule.{run, holds, while, member, is};
-ghost use Rattle.myanmar.specs.Grammar.{scalarAt, isKinzi, acceptWithAs, stacked, postBaseVowel, pwoToneMark, medials, vowels, finals, base, kinzi, syllable, alone, isAlone, cluster};
+ghost use Rattle.myanmar.specs.Grammar.{scalarAt, isKinzi, acceptWithAs, stacked, postBaseVowel, pwoToneMark, medials, vowels, finals, kinzi, syllable, alone, isAlone, cluster};
 
-fn accept_with_as(s: Parse, text: &[u64], kind: u8) -> Parse
+fn accept_with_as(mut s: Parse, text: &[u64], kind: u8) -> Parse
     ensures { λ r. ⌜ r ≡ run (acceptWithAs kind) (now (text .entry)) s ⌝ }
 {
     if s.kind_is(text, kind) {
-        return s.accept_any_as(text, Shape::Other).accept(text, As);
+        s = s.accept_any_as(text, Shape::Other);
+        s = s.accept(text, As);
+        return s;
     }
     s
 }
 
-fn parse_stacked_consonant_or_vowel(s: Parse, text: &[u64]) -> Parse
+fn parse_stacked_consonant_or_vowel(mut s: Parse, text: &[u64]) -> Parse
     ensures { λ r. ⌜ r ≡ run stacked (now (text .entry)) s ⌝ }
 {
-    let s = s.accept_any_as(text, Shape::Halant);
+    s = s.accept_any_as(text, Shape::Halant);
     if s.kind_in2(text, C, IV) {
-        return s.accept_any_as(text, Shape::Base)
-            .accept_as(text, VS, Shape::Vs);
+        s = s.accept_any_as(text, Shape::Base);
+        s = s.accept_as(text, VS, Shape::Vs);
+        return s;
     }
-    s.stop(text)
+    s = s.stop(text);
+    s
 }
 
 fn parse_stacked(s: Parse, text: &[u64]) -> Parse
@@ -41,15 +45,16 @@ fn parse_stacked(s: Parse, text: &[u64]) -> Parse
     s
 }
 
-fn parse_post_base_vowel(s: Parse, text: &[u64]) -> Parse
+fn parse_post_base_vowel(mut s: Parse, text: &[u64]) -> Parse
     ensures { λ r. ⌜ r ≡ run postBaseVowel (now (text .entry)) s ⌝ }
 {
-    let s = s.accept_any_as(text, Shape::Other);
-    let s = s.accept(text, MH);
-    let s = s.accept_zero_or_many(text, As);
-    let s = s.accept_zero_or_many(text, VAbv);
-    let s = s.accept_zero_or_many_as(text, A, Shape::Anusvara);
-    accept_with_as(s, text, DB)
+    s = s.accept_any_as(text, Shape::Other);
+    s = s.accept(text, MH);
+    s = s.accept_zero_or_many(text, As);
+    s = s.accept_zero_or_many(text, VAbv);
+    s = s.accept_zero_or_many_as(text, A, Shape::Anusvara);
+    s = accept_with_as(s, text, DB);
+    s
 }
 
 fn parse_post_base_vowels(s: Parse, text: &[u64]) -> Parse
@@ -62,17 +67,20 @@ fn parse_post_base_vowels(s: Parse, text: &[u64]) -> Parse
     s
 }
 
-fn parse_pwo_tone_mark(s: Parse, text: &[u64]) -> Parse
+fn parse_pwo_tone_mark(mut s: Parse, text: &[u64]) -> Parse
     ensures { λ r. ⌜ r ≡ run pwoToneMark (now (text .entry)) s ⌝ }
 {
-    let s = s.accept_any_as(text, Shape::Other);
+    s = s.accept_any_as(text, Shape::Other);
     if s.kind_is(text, As) {
-        return s.accept_any_as(text, Shape::Other)
-            .accept_as(text, A, Shape::Anusvara);
+        s = s.accept_any_as(text, Shape::Other);
+        s = s.accept_as(text, A, Shape::Anusvara);
+        return s;
     }
     // "This goes against the spec, but seems to be necessary", says the Rust of the zero or many A.
-    let s = s.accept_zero_or_many_as(text, A, Shape::Anusvara);
-    s.accept(text, DB).accept(text, As)
+    s = s.accept_zero_or_many_as(text, A, Shape::Anusvara);
+    s = s.accept(text, DB);
+    s = s.accept(text, As);
+    s
 }
 
 fn parse_pwo_tone_marks(s: Parse, text: &[u64]) -> Parse
@@ -85,17 +93,20 @@ fn parse_pwo_tone_marks(s: Parse, text: &[u64]) -> Parse
     s
 }
 
-fn parse_medials(s: Parse, text: &[u64]) -> Parse
+fn parse_medials(mut s: Parse, text: &[u64]) -> Parse
     ensures { λ r. ⌜ r ≡ run medials (now (text .entry)) s ⌝ }
 {
-    let s = s.accept_zero_or_many(text, As);
-    let s = accept_with_as(s, text, MY);
-    let s = s.accept_as(text, MR, Shape::MedialRa);
+    s = s.accept_zero_or_many(text, As);
+    s = accept_with_as(s, text, MY);
+    s = s.accept_as(text, MR, Shape::MedialRa);
     if s.kind_is(text, MW) {
-        let s = s.accept_any_as(text, Shape::Other);
-        return s.accept(text, MH).accept(text, As);
+        s = s.accept_any_as(text, Shape::Other);
+        s = s.accept(text, MH);
+        s = s.accept(text, As);
+        return s;
     }
-    accept_with_as(s, text, MH)
+    s = accept_with_as(s, text, MH);
+    s
 }
 
 fn parse_vowels(s: Parse, text: &[u64]) -> Parse
@@ -114,17 +125,6 @@ fn parse_finals(s: Parse, text: &[u64]) -> Parse
     let s = parse_post_base_vowels(s, text);
     let s = parse_pwo_tone_marks(s, text);
     s.accept_zero_or_many(text, V).accept(text, J)
-}
-
-fn parse_base(s: Parse, text: &[u64]) -> Parse
-    ensures { λ r. ⌜ r ≡ run base (now (text .entry)) s ⌝ }
-{
-    let s = s.accept_any_as(text, Shape::Base);
-    let s = s.accept_as(text, VS, Shape::Vs);
-    let s = parse_stacked(s, text);
-    let s = parse_medials(s, text);
-    let s = parse_vowels(s, text);
-    parse_finals(s, text)
 }
 
 pub fn begins_kinzi(x: u32) -> bool
@@ -172,22 +172,31 @@ fn is_kinzi(s: Parse, text: &[u64]) -> bool
     false
 }
 
-fn parse_kinzi(s: Parse, text: &[u64]) -> Parse
+fn parse_kinzi(mut s: Parse, text: &[u64]) -> Parse
     ensures { λ r. ⌜ r ≡ run kinzi (now (text .entry)) s ⌝ }
 {
     if is_kinzi(s, text) {
-        return s.thrice(text, Shape::Kinzi);
+        s = s.thrice(text, Shape::Kinzi);
+        return s;
     }
     s
 }
 
-fn parse_syllable(s: Parse, text: &[u64]) -> Parse
+fn parse_syllable(mut s: Parse, text: &[u64]) -> Parse
     ensures { λ r. ⌜ r ≡ run syllable (now (text .entry)) s ⌝ }
 {
     if s.kind_in4(text, C, IV, D, DB) {
-        return parse_base(s, text);
+        s = s.accept_any_as(text, Shape::Base);
+        s = s.accept_as(text, VS, Shape::Vs);
+        s = parse_stacked(s, text);
+        s = parse_medials(s, text);
+        s = parse_vowels(s, text);
+        s = parse_finals(s, text);
+        return s;
     }
-    s.set_broken(text).accept_any_as(text, Shape::Other)
+    s = s.set_broken(text);
+    s = s.accept_any_as(text, Shape::Other);
+    s
 }
 
 fn is_alone_class(k: u8) -> bool
@@ -214,18 +223,22 @@ fn is_alone(s: Parse, text: &[u64]) -> bool
     is_alone_class(s.kind(text))
 }
 
-pub fn parse(s: Parse, text: &[u64]) -> Parse
+pub fn parse(mut s: Parse, text: &[u64]) -> Parse
     ensures { λ r. ⌜ r ≡ run cluster (now (text .entry)) s ⌝ }
 {
     if s.emoji(text) {
-        return s.parse_emoji(text);
+        s = s.parse_emoji(text);
+        return s;
     }
     if s.kind_is(text, O) {
-        return s.parse_other(text);
+        s = s.parse_other(text);
+        return s;
     }
     if is_alone(s, text) {
-        return s.accept_any_as(text, Shape::Other);
+        s = s.accept_any_as(text, Shape::Other);
+        return s;
     }
-    let s = parse_kinzi(s, text);
-    parse_syllable(s, text)
+    s = parse_kinzi(s, text);
+    s = parse_syllable(s, text);
+    s
 }

@@ -1,6 +1,7 @@
 pub mod Loop
 pub mod Moves
 pub mod Steps
+pub mod Joiners
 pub mod Keeps
 pub mod Runs
 pub mod Rules

@@ -1,6 +1,5 @@
--- One push, one note and one step: each takes from the turns left, and the room left falls where a step and a push call each other
--- over U+034F. Assumes nothing.
-use Prim.Native.Nat.{ℕ, _+_, _-_, _<_, _≤_, _*_, max}
+-- One push, one note and one step: each takes from the turns left. Assumes nothing.
+use Prim.Native.Nat.{ℕ, _+_, _<_, _≤_}
 use mathlib.Core.Path.{_≡_, refl, sym, _∙_}
 use mathlib.Core.Bool.{Bool, true, false, cond}
 use mathlib.Core.List.{List}
@@ -17,7 +16,7 @@ use Rattle.classes.specs.declared.Mode.{Mode}
 use Rattle.classes.specs.declared.Mode.the-variants.{Crate, Whole}
 use Rattle.parse.specs.declared.Flow.the-variants.{Full, End}
 use Rattle.parse.specs.State.{tokenAt, placeAfter, filledAt, turns, going, withPlace, withFlow, withDone, withCells, putOf, notedOf, movedOf, onJoiner, hop, stepOf, pushOf, noteOf}
-use Rattle.parse.proofs.Loop.{false-true, if-intro, if-same, Falls, loop-goes, loop-stays, loop-keeps}
+use Rattle.parse.proofs.Loop.{if-intro, if-same, Falls, loop-goes, loop-stays, loop-keeps}
 
 -- what changes with no cell, a put and a note leave
 module _ {A : Type 0} (f : Parse → A) (same : (n : ℕ) (cs : List Pushed) (s : Parse) → f (withCells n cs s) ≡ f s) (t : ℕ) (s : Parse) where
@@ -34,7 +33,7 @@ place-lt n i h = go (ltb i n) refl h
     go true k e = (refl, ltb-true _ _ e)
     go false k e = absurd (let l = ltb-true i n e in omega (arith, ltb-false i n k))
 
-place-le : (n i : ℕ) → i ≤ placeAfter n i
+pub place-le : (n i : ℕ) → i ≤ placeAfter n i
 place-le n i = if-intro (λ k. i ≤ k) (ltb i n) _ _ (λ h. omega arith) (λ h. omega arith)
 
 filled-le : (m : Mode) (n i : ℕ) → i ≤ filledAt m n i
@@ -71,7 +70,7 @@ hop-falls text s h =
     rw (← put-same (turns text) (λ n cs q. refl) t s Other)
     (moved-turns text (putOf t Other s) (put-same going (λ n cs q. refl) t s Other ∙ joiner-going text s h))
 
--- the cycle of step and push: s moved to m, and m is at a U+034F or not
+-- s moved to m, and m is at a U+034F or not
 module _ (text : List ℕ) (s m : Parse) (e : m ≡ movedOf (length text) s) where
   pub step-over : onJoiner text m ≡ true → pushOf text Other m ≡ stepOf text s
   unfolding pushOf stepOf
@@ -80,18 +79,6 @@ module _ (text : List ℕ) (s m : Parse) (e : m ≡ movedOf (length text) s) whe
   pub step-stays : onJoiner text m ≡ false → m ≡ stepOf text s
   unfolding stepOf
   step-stays h = rw (← e) (sym (loop-stays text (onJoiner text) (hop text) m h))
-
--- "the room left in the cluster falls": the measures of the cycle are twice the room at a step, and one less at a push
-pub put-room : (t : ℕ) (c : Shape) (s : Parse) → 2 * (32 - (putOf t c s) .len) < max 1 (2 * (32 - s .len) - 1)
-put-room t c s = if-intro (λ (q : Parse). 2 * (32 - q .len) < max 1 (2 * (32 - s .len) - 1)) (ltb (s .len) 32) _ _
-    (λ h. omega (arith, ltb-true (s .len) 32 h)) (λ h. omega (arith, ltb-false (s .len) 32 h))
-
-moved-room : (n : ℕ) (s : Parse) → going (movedOf n s) ≡ true → (s .len < 32) × ((movedOf n s) .len ≡ s .len)
-moved-room n s = moved-case (λ q. going q ≡ true → (s .len < 32) × (q .len ≡ s .len)) n s
-    (λ l h g. (l, refl)) (λ l h g. (l, refl)) (λ l g. absurd (false-true g))
-
-pub joiner-room : (text : List ℕ) (s m : Parse) → m ≡ movedOf (length text) s → onJoiner text m ≡ true → max 1 (2 * (32 - m .len) - 1) < 2 * (32 - s .len)
-joiner-room text s m e h = let r = moved-room (length text) s (rw e at (joiner-going text m h)) in rw e (omega (arith, r .0, r .1))
 
 -- the turns left fall: step, push, note
 step-turns : (text : List ℕ) (s : Parse) → going s ≡ true → turns text (stepOf text s) < turns text s

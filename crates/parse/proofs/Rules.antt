@@ -5,15 +5,18 @@ use mathlib.Core.Path.{_≡_, refl, sym, _∙_, ap}
 use mathlib.Core.Bool.{Bool, true, false, cond}
 use mathlib.Core.List.{List, [], _∷_}
 use lib.Dec.{eqb}
+use lib.ListN.{length}
 use borrow.Author.Tests.{eq-eqb, ne-eqb}
 use Rattle.classes.specs.declared.Shape.{Shape}
+use Rattle.classes.specs.declared.Shape.the-variants.{Other}
 use Rattle.token.specs.Token.{kindOf}
 use Rattle.parse.specs.declared.Parse.{Parse}
 use Rattle.parse.specs.declared.Info.{Info}
 use Rattle.parse.specs.declared.Flow.the-variants.{Stop}
-use Rattle.parse.specs.State.{tokenAt, turns, going, withFlow, withInfo, pushOf, notedOf, noteOf, stepOf, resumedOf, retriedOf}
+use Rattle.parse.specs.State.{tokenAt, turns, going, withFlow, withInfo, movedOf, onJoiner, pushOf, notedOf, noteOf, stepOf, resumedOf, retriedOf}
 use Rattle.parse.specs.Rule.{Test, Rule, skip, stop, push, note, mark, seq, choose, while, part, thrice, run, takeOf, thriceOf, holds, take, either, member, oneOf, kindHere, is}
 use Rattle.parse.proofs.Loop.{false-true}
+use Rattle.parse.proofs.Moves.{joiner-going, step-over}
 use Rattle.parse.proofs.Runs.{moves, run-still, run-goes, run-stays, run-falls, run-seq, run-then, run-else}
 
 -- s is the parse before, r the function's result, t a test's result
@@ -137,12 +140,25 @@ member-last x k = go (eqb k x)
 -- a kind against a list, one `if` after the other
 pub ruleset members = (member-here, member-next, member-last)
 
+-- a step onto a U+034F, m, which is then taken
+pub step-onto : (text : List ℕ) (s m r : Parse) → m ≡ movedOf (length text) s → onJoiner text m ≡ true → r ≡ run (take Other) text m → r ≡ stepOf text s
+unfolding run
+step-onto text s m r e h q = q ∙ rw (joiner-going text m h) (step-over text s m e h)
+
 -- a loop's invariant, that what is left to run gives the whole: it is kept by a turn, and ends in the claim
 pub loop-turns : (p : Test) (a : Rule) (text : List ℕ) (s q r : Parse) (t : Bool) → moves a ≡ true → run (while p a) text q ≡ run (while p a) text s → t ≡ holds text p q → t ≡ true → r ≡ run a text q → run (while p a) text r ≡ run (while p a) text s
 loop-turns p a text s q r t m i e h k = rw k (sym (run-goes p a text q m (sym e ∙ h)) ∙ i)
 
 pub loop-leaves : (p : Test) (a : Rule) (text : List ℕ) (s q : Parse) (t : Bool) → run (while p a) text q ≡ run (while p a) text s → t ≡ holds text p q → t ≡ false → q ≡ run (while p a) text s
 loop-leaves p a text s q t i e h = sym (run-stays p a text q (sym e ∙ h)) ∙ i
+
+-- the same with a rule behind the loop
+pub loop-then : (p : Test) (a b : Rule) (text : List ℕ) (s q r : Parse) (t : Bool) → run (while p a) text q ≡ run (while p a) text s → t ≡ holds text p q → t ≡ false → r ≡ run b text q → r ≡ run (seq (while p a) b) text s
+loop-then p a b text s q r t i e h k = by-seq text s r (while p a) b q (loop-leaves p a text s q t i e h) k
+
+-- and where it is a part behind another rule, which made m
+pub loop-part : (p : Test) (a b : Rule) (text : List ℕ) (s m q r : Parse) (t u : Bool) → m ≡ run b text s → t ≡ going m → t ≡ true → run (while p a) text q ≡ run (while p a) text m → u ≡ holds text p q → u ≡ false → r ≡ resumedOf q → r ≡ run (seq b (part (while p a))) text s
+loop-part p a b text s m q r t u k g h i e j l = by-seq text s r b (part (while p a)) m k (by-part text m r (while p a) q t g h (loop-leaves p a text m q u i e j) l)
 
 -- its measure falls
 pub falls : (p : Test) (a : Rule) (text : List ℕ) (q r : Parse) (t : Bool) → moves a ≡ true → t ≡ holds text p q → t ≡ true → r ≡ run a text q → turns text r < turns text q

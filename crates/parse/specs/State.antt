@@ -2,9 +2,10 @@
 -- `filledAt`, what a step does at a cluster of 32, and `passesEnd`, what becomes of the end of the text within a kinzi.
 use Prim.Native.Nat.{ℕ, zero, suc, _+_, _-_}
 use mathlib.Core.Bool.{Bool, true, false, cond}
-use mathlib.Core.List.{List}
+use mathlib.Core.List.{List, []}
 use lib.Dec.{eqb, ltb}
 use lib.ListN.{length, set, getD, replicate}
+use denote.Ref.{RefT, now}
 use Rattle.classes.specs.declared.Shape.{Shape}
 use Rattle.classes.specs.declared.Shape.the-variants.{Base, Other}
 use Rattle.classes.specs.Scalar.{CGJ}
@@ -166,3 +167,20 @@ passesEnd Crate End again = cond again false true
 -- the last token is current still, and is read again
 abbrev pub retriedOf : Parse → Parse
 retriedOf s = cond (passesEnd (s .mode) (s .flow) (s .again)) (withFlow GoOn (withAgain s)) s
+
+-- What only private contracts need
+
+-- a text behind a thin reference, that to an array which holds it alone
+abbrev pub held : List (RefT (List ℕ)) → List ℕ
+held texts = now (getD texts 0 (record { ptr = (0, 0); name = 0; now = [] }))
+
+-- the last U+034F of those behind token i of n, as many as there is room for; token i where there is none
+unfoldable pub stepPast : ℕ → ℕ → List ℕ → ℕ → ℕ
+stepPast zero n text i = i
+stepPast (suc room) n text i =
+    let later = stepPast room n text (placeAfter n i) in
+    cond (eqb (scalarOf (tokenAt text (placeAfter n i))) CGJ) later i
+
+-- the last token that is pushed where a parse's current one is
+abbrev pub lastPushed : List ℕ → Parse → ℕ
+lastPushed text s = cond (going s) (cond (s .joins) (cond (ltb (s .len) 32) (stepPast (32 - (s .len + 1)) (length text) text (s .at)) (s .at)) (s .at)) (s .at)

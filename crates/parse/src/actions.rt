@@ -44,31 +44,36 @@ impl Parse {
         s
     }
 
-    pub fn accept_zero_or_many(self, text: &[u64], kind: u8) -> Parse
+    pub fn accept_zero_or_many(mut self, text: &[u64], kind: u8) -> Parse
         ensures { λ r. ⌜ r ≡ run (many kind) (now (text .entry)) self ⌝ }
     {
-        self.accept_zero_or_many_as(text, kind, Shape::Other)
+        self = self.accept_zero_or_many_as(text, kind, Shape::Other);
+        self
     }
 
     // `note_char`, and the step behind it.
-    pub fn note_char(self, text: &[u64]) -> Parse
+    pub fn note_char(mut self, text: &[u64]) -> Parse
         ensures { λ r. ⌜ r ≡ run note (now (text .entry)) self ⌝ }
     {
         if self.going() {
             let at = self.at;
-            return self.noted(token_at(text, at)).step(text);
+            self = self.noted(token_at(text, at));
+            self = self.step(text);
+            return self;
         }
         self
     }
 
     // Kinzi: the current token and two more; in crate mode the end of the text is passed over, repeat (b).
-    pub fn thrice(self, text: &[u64], class: Shape) -> Parse
+    pub fn thrice(mut self, text: &[u64], class: Shape) -> Parse
         ensures { λ r. ⌜ r ≡ run (Rattle.parse.specs.Rule.thrice class) (now (text .entry)) self ⌝ }
     {
         if self.going() {
-            let s = self.accept_any_as(text, class);
-            let s = s.accept_any_as(text, class);
-            return s.accept_any_as(text, class).retried();
+            self = self.accept_any_as(text, class);
+            self = self.accept_any_as(text, class);
+            self = self.accept_any_as(text, class);
+            self = self.retried();
+            return self;
         }
         self
     }

@@ -95,6 +95,9 @@ impl Place {
 
 // A call under way. `done` is the Rust's: the text has ended, and `at` stays on its last token. `again` says that this token is
 // read a second time, repeat (b). `joins` says whether U+034F is stepped over. One flat struct, since it is changed in place.
+//
+// It has 424 bytes, and the compiler gives each variable that holds one a place of its own on the stack. So a function that asks between
+// its steps takes them in one variable, `s = s.accept(..);`, and the steps of a push are in one function that is kept whole.
 pub struct Parse {
     pub at: usize,
     pub done: bool,

@@ -11,8 +11,8 @@ use classes::scalar;
 ghost use mathlib.Core.Path.{_≡_};
 ghost use mathlib.Core.Bool.{cond};
 ghost use lib.Dec.{ltb};
-ghost use Prim.Native.Nat.{_+_};
-ghost use Rattle.parse.specs.State.{tokenAt, placeAfter, clusterOf, placeOf, isGoing, withFlow, withInfo, filledAt, putOf, notedOf, movedOf, onJoiner, stepOf, pushOf, resumedOf, retriedOf, goOn, passesEnd};
+ghost use Prim.Native.Nat.{_+_, _-_, _<_};
+ghost use Rattle.parse.specs.State.{tokenAt, placeAfter, clusterOf, placeOf, isGoing, withFlow, withInfo, filledAt, putOf, notedOf, movedOf, onJoiner, stepOf, pushOf, resumedOf, retriedOf, goOn, passesEnd, held, stepPast, lastPushed};
 
 pub fn token_at(text: &[u64], i: usize) -> u64
     ensures { λ r. ⌜ r ≡ tokenAt (now (text .entry)) i ⌝ }
@@ -66,6 +66,37 @@ fn passes_end(mode: Mode, flow: Flow, again: bool) -> bool
             Flow::End => if again { false } else { true },
         },
     }
+}
+
+// A token of a text that is handed on behind a thin reference.
+fn token_of<'s, 'a>(text: &'s [&'a [u64]; 1], i: usize) -> u64
+    ensures { λ r. ⌜ r ≡ tokenAt (held (now (text .entry))) i ⌝ }
+{
+    token_at(text[0], i)
+}
+
+// "A step onto [U+034F] pushes it as Other and steps again, for as many as follow while there is room": the last token that is pushed so,
+// where a cluster of len characters steps off token i of n. Step and push call each other, and the room left falls. What goes round
+// is numbers and a thin reference alone, so that the compiler makes a loop of the two.
+fn step_past<'s, 'a>(text: &'s [&'a [u64]; 1], n: usize, i: usize, len: usize) -> usize
+    ensures { λ r. ⌜ r ≡ stepPast (32 - len) n (held (now (text .entry))) i ⌝ }
+{
+    if len < 32 {
+        let next = place_after(n, i);
+        if token::scalar(token_of(text, next)) == scalar::CGJ {
+            return push_past(text, n, next, len);
+        }
+        return i;
+    }
+    i
+}
+
+// The same from the U+034F at i on, which is pushed first.
+fn push_past<'s, 'a>(text: &'s [&'a [u64]; 1], n: usize, i: usize, len: usize) -> usize
+    requires { ⌜ len < 32 ⌝ }
+    ensures { λ r. ⌜ r ≡ stepPast (32 - (len + 1)) n (held (now (text .entry))) i ⌝ }
+{
+    step_past(text, n, i, len + 1)
 }
 
 impl Parse {
@@ -221,23 +252,49 @@ impl Parse {
         false
     }
 
-    // Onto the next token: "a step onto [U+034F] pushes it as Other and steps again".
-    pub(crate) fn step(self, text: &[u64]) -> Parse
-        ensures { λ r. ⌜ r ≡ stepOf (now (text .entry)) self ⌝ }
-    {
-        let next = self.moved(text.len());
-        if next.on_joiner(text) {
-            return next.push(text, Shape::Other);
-        }
-        next
-    }
-
-    // "Push, then step."
-    pub(crate) fn push(self, text: &[u64], class: Shape) -> Parse
-        ensures { λ r. ⌜ r ≡ pushOf (now (text .entry)) class self ⌝ }
+    // The last token that is pushed where the current one is: of the U+034F behind it, as many as there is room for.
+    fn last_pushed(self, text: &[u64]) -> usize
+        ensures { λ r. ⌜ r ≡ lastPushed (now (text .entry)) self ⌝ }
     {
         let at = self.at;
-        self.put(token_at(text, at), class).step(text)
+        let len = self.len;
+        if self.going() {
+            if self.joins {
+                if len < 32 {
+                    return push_past(&[text], text.len(), at, len);
+                }
+            }
+        }
+        at
+    }
+
+    // "Push, then step": what the step pushes is pushed here.
+    pub(crate) fn push(mut self, text: &[u64], mut class: Shape) -> Parse
+        ensures { λ r. ⌜ r ≡ pushOf (now (text .entry)) class self ⌝ }
+    {
+        let last = self.last_pushed(text);
+        while self.at < last {
+            let at = self.at;
+            self = self.put(token_at(text, at), class);
+            self = self.moved(text.len());
+            class = Shape::Other;
+        }
+        let at = self.at;
+        self = self.put(token_at(text, at), class);
+        self = self.moved(text.len());
+        self
+    }
+
+    // Onto the next token; a U+034F there is pushed, with those behind it.
+    pub(crate) fn step(mut self, text: &[u64]) -> Parse
+        ensures { λ r. ⌜ r ≡ stepOf (now (text .entry)) self ⌝ }
+    {
+        self = self.moved(text.len());
+        if self.on_joiner(text) {
+            self = self.accept_any_as(text, Shape::Other);
+            return self;
+        }
+        self
     }
 
     // After a part: a stop in it ended it alone.

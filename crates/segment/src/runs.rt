@@ -142,10 +142,71 @@ fn run_within<'s, 'a>(
     finish(parser, mode, text, s, oscalars, oclasses, oclusters)
 }
 
-// The same over an array of its own, large enough for n tokens.
+// The same in an array for the longest text, and in one for a paragraph.
+fn run_long<'s, 'a>(
+    parser: Parser,
+    mode: Mode,
+    from: Stand,
+    wides: &'s [&'a [u32]; 2],
+    bytes: &'s [&'a [u8]; 15],
+    firsts: &'a [u16],
+    oscalars: &mut [u32],
+    oclasses: &mut [u8],
+    oclusters: &mut [u16],
+) -> RunAnswer
+    requires { ⌜ Rests parser mode (lent wides bytes firsts) 12288 oscalars oclasses oclusters from ⌝ }
+    ensures { λ r. ⌜ FinishedIn parser mode (lent (wides .entry) (bytes .entry) (firsts .entry)) from oscalars oclasses oclusters r ⌝ }
+{
+    let mut long = [0u64; 12288];
+    run_within(
+        parser,
+        mode,
+        from,
+        wides,
+        bytes,
+        firsts,
+        &mut long,
+        oscalars,
+        oclasses,
+        oclusters,
+    )
+}
+
+fn run_middle<'s, 'a>(
+    parser: Parser,
+    mode: Mode,
+    from: Stand,
+    wides: &'s [&'a [u32]; 2],
+    bytes: &'s [&'a [u8]; 15],
+    firsts: &'a [u16],
+    oscalars: &mut [u32],
+    oclasses: &mut [u8],
+    oclusters: &mut [u16],
+) -> RunAnswer
+    requires { ⌜ Rests parser mode (lent wides bytes firsts) 2048 oscalars oclasses oclusters from ⌝ }
+    ensures { λ r. ⌜ FinishedIn parser mode (lent (wides .entry) (bytes .entry) (firsts .entry)) from oscalars oclasses oclusters r ⌝ }
+{
+    let mut middle = [0u64; 2048];
+    run_within(
+        parser,
+        mode,
+        from,
+        wides,
+        bytes,
+        firsts,
+        &mut middle,
+        oscalars,
+        oclasses,
+        oclusters,
+    )
+}
+
+// The same in an array of so many cells, or in a larger one where these are too few for n tokens. It calls itself for the larger one, so
+// that the large arrays have frames of their own (see `Segmenter::next_array`).
 fn run_array<'s, 'a>(
     parser: Parser,
     mode: Mode,
+    cells: usize,
     n: usize,
     from: Stand,
     wides: &'s [&'a [u32]; 2],
@@ -158,37 +219,48 @@ fn run_array<'s, 'a>(
     requires { ⌜ (n ≤ 12288) × Rests parser mode (lent wides bytes firsts) n oscalars oclasses oclusters from ⌝ }
     ensures { λ r. ⌜ FinishedIn parser mode (lent (wides .entry) (bytes .entry) (firsts .entry)) from oscalars oclasses oclusters r ⌝ }
 {
-    if n <= SHORT {
-        let mut short = [0u64; 256];
-        return run_within(
+    if cells < n {
+        return run_array(
+            parser,
+            mode,
+            n,
+            n,
+            from,
+            wides,
+            bytes,
+            firsts,
+            oscalars,
+            oclasses,
+            oclusters,
+        );
+    }
+    if MIDDLE < cells {
+        return run_long(
             parser,
             mode,
             from,
             wides,
             bytes,
             firsts,
-            &mut short,
             oscalars,
             oclasses,
             oclusters,
         );
     }
-    if n <= MIDDLE {
-        let mut middle = [0u64; 2048];
-        return run_within(
+    if SHORT < cells {
+        return run_middle(
             parser,
             mode,
             from,
             wides,
             bytes,
             firsts,
-            &mut middle,
             oscalars,
             oclasses,
             oclusters,
         );
     }
-    let mut long = [0u64; 12288];
+    let mut short = [0u64; 256];
     run_within(
         parser,
         mode,
@@ -196,7 +268,7 @@ fn run_array<'s, 'a>(
         wides,
         bytes,
         firsts,
-        &mut long,
+        &mut short,
         oscalars,
         oclasses,
         oclusters,
@@ -286,6 +358,7 @@ pub(crate) fn run_accepted<'s, 'a>(
         return run_array(
             parser,
             mode,
+            SHORT,
             n,
             s,
             wides,
