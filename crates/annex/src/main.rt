@@ -16,7 +16,7 @@ fn bit(b: bool) -> u8 {
 fn clusters(classes: &[u8], marks: &[u8], bits: &mut Cells) {
     let mut i: usize = 0;
     while i < 64 {
-        bits[i] = bit(plain::clusters::boundary(classes, marks, i));
+        bits[i] = bit(uax29::clusters::boundary(classes, marks, i));
         i += 1;
     }
 }
@@ -55,7 +55,7 @@ fn answer_items(kind: u8, section: &[u8], items: usize) {
     let n = cases::column8(section, 0, items, &mut classes);
     let m = cases::column8(section, 1, items, &mut marks);
     if kind == b'W' {
-        plain::words::boundaries(&classes[..n], &marks[..m], &mut bits);
+        uax29::words::boundaries(&classes[..n], &marks[..m], &mut bits);
     } else {
         clusters(&classes[..n], &marks[..m], &mut bits);
     }

@@ -12,7 +12,7 @@ use Rattle.records.specs.Refusals as Refusals
 use Rattle.records.specs.declared.Parser.{Parser}
 use Rattle.records.specs.declared.Parser.the-variants.{Simple, Myanmar, Complex, Khmer}
 use Rattle.records.specs.declared.Verdict.the-variants.{Accepted}
-use Rattle.tokens.specs.Tokens as Tokens
+use Rattle.stream.specs.Stream as Tokens
 use Rattle.parse.specs.State as State
 use Rattle.parse.specs.Rule as Rule
 use Rattle.parse.specs.Shared as Shared

@@ -13,7 +13,7 @@ use Rattle.records.specs.declared.Parser.{Parser}
 use Rattle.records.specs.declared.Parser.the-variants.{Complex, Khmer}
 use Rattle.records.specs.declared.Side.the-variants.{Record}
 use Rattle.records.specs.declared.Verdict.the-variants.{Refused}
-use Rattle.tokens.specs.Tokens as Tokens
+use Rattle.stream.specs.Stream as Tokens
 use Rattle.complex.specs.Ignored.{barredText}
 use Rattle.marked.specs.Cases.{sign, textFor}
 

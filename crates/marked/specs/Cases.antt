@@ -17,7 +17,7 @@ use Rattle.classes.specs.declared.Shape.the-variants.{Base, Mark, Control, Kinz
 use Rattle.records.specs.Text.{Text, textOf}
 use Rattle.records.specs.declared.Parser.{Parser}
 use Rattle.records.specs.declared.Parser.the-variants.{Simple, Myanmar, Complex, Khmer}
-use Rattle.tokens.specs.Tokens.{streamOf}
+use Rattle.stream.specs.Stream.{streamOf}
 use Rattle.parse.specs.declared.Emoji.the-variants.{None as NoEmoji, Color}
 use Rattle.parse.specs.declared.Info.{Info}
 use Rattle.parse.specs.declared.Pushed.{Pushed}

@@ -2,9 +2,9 @@
 // built of its methods, which carry the names that they have in the Rust.
 pub mod actions;
 pub mod emoji_loop;
-pub mod other;
+pub mod class_o;
 pub mod state;
-pub mod tests;
+pub mod asks;
 
 use classes::Mode;
 use classes::Shape;

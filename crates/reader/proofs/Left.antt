@@ -9,7 +9,7 @@ use Rattle.segment.specs.Calls.{nextOf, refusal, end, found}
 use Rattle.segment.specs.declared.Answer.{Answer}
 use Rattle.segment.specs.declared.Segmenter.{Segmenter}
 use Rattle.segment.specs.declared.What.the-variants.{Found}
-use Rattle.segment.proofs.Laws.{tokens, next-case, accepted-short}
+use Rattle.segment.proofs.Coverage.{tokens, next-case, accepted-short}
 use Rattle.segment.proofs.Progress.{progress}
 
 abbrev pub left : Segmenter → Text → ℕ

@@ -70,8 +70,8 @@ fn token_count<'s, 'a>(
     match parser {
         Parser::Simple => record_count(wides, bytes, firsts),
         Parser::Myanmar => record_count(wides, bytes, firsts),
-        Parser::Complex => tokens::count(false, wides, bytes, firsts),
-        Parser::Khmer => tokens::count(true, wides, bytes, firsts),
+        Parser::Complex => stream::count(false, wides, bytes, firsts),
+        Parser::Khmer => stream::count(true, wides, bytes, firsts),
     }
 }
 

@@ -26,8 +26,8 @@ use Rattle.segment.specs.Standing.{Running}
 use Rattle.segment.specs.Going.{started, goesOn, doneBy, givenUp, stopOf, backOf, refilled, overed, noted, written, turned, putBy, Wrote, Writable}
 use Rattle.segment.specs.declared.going.Going.{Going}
 use Rattle.segment.specs.declared.going.Stand.{Stand}
-use Rattle.segment.proofs.Turns.{run-starts}
-use Rattle.segment.proofs.Turn.{Next, Put, After}
+use Rattle.segment.proofs.CallTurns.{run-starts}
+use Rattle.segment.proofs.TableTurn.{Next, Put, After}
 use Rattle.segment.proofs.TableLaws.{answerOf, sampleOf, rulesOf, decoded, okay-class, okay-row, okay-inside, Stands, turns, turn-okay}
 
 rows-some : (parser : Parser) → 0 < rowsOf parser

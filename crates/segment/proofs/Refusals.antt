@@ -16,14 +16,14 @@ use Rattle.records.specs.declared.Verdict.{Verdict}
 use Rattle.records.specs.declared.Verdict.the-variants.{Accepted, Refused}
 use Rattle.records.proofs.Tables.{firstLine}
 use Rattle.records.proofs.Judged.{alone, call-by-table}
-use Rattle.tokens.specs.Tokens.{streamOf}
+use Rattle.stream.specs.Stream.{streamOf}
 use Rattle.parse.specs.declared.Parse.{Parse}
 use Rattle.segment.specs.declared.Segmenter.{Segmenter}
 use Rattle.segment.specs.declared.RunAnswer.{RunAnswer}
 use Rattle.segment.specs.Calls.{refusal, end, found, nextOf}
 use Rattle.segment.specs.Met.{refusalIn, Met, placeLine, roomLine}
 use Rattle.segment.specs.Runs.{callsOf, shortest, roomFor, runVerdict, runUnder, RanOf}
-use Rattle.segment.proofs.Laws.{tokens, next-case}
+use Rattle.segment.proofs.Coverage.{tokens, next-case}
 
 -- # The stepping call
 

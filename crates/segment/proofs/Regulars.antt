@@ -15,8 +15,8 @@ use Rattle.records.specs.Sound.{Sound}
 use Rattle.records.specs.declared.Parser.{Parser}
 use Rattle.records.specs.declared.Parser.the-variants.{Simple, Myanmar, Complex, Khmer}
 use Rattle.records.proofs.Passing.{not-so}
-use Rattle.tokens.specs.Tokens.{Source, Splits, sourceOf, splitsOf, itself, split, gather, streamOf}
-use Rattle.tokens.proofs.Accepted.{small, own-says}
+use Rattle.stream.specs.Stream.{Source, Splits, sourceOf, splitsOf, itself, split, gather, streamOf}
+use Rattle.stream.proofs.Accepted.{small, own-says}
 use Rattle.parse.specs.State.{tokenAt}
 use Rattle.parse.proofs.Loop.{by-test}
 use Rattle.tables.specs.Symbols.{Regular, simpleRegular, myanmarRegular, useRegular}

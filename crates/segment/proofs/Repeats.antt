@@ -30,7 +30,7 @@ use Rattle.tables.proofs.ComplexRules as cx
 use Rattle.tables.proofs.KhmerRules as kh
 use Rattle.segment.specs.Calls.{grammar, joins, called}
 use Rattle.segment.specs.Repeats.{repeatB, repeated, unrepeated}
-use Rattle.segment.proofs.Turns.{call-repeats}
+use Rattle.segment.proofs.CallTurns.{call-repeats}
 
 -- a grammar without a kinzi reads no token again; Myanmar's does where document 01 says
 call-again : (parser : Parser) (mode : Mode) (stream : List ℕ) (at : ℕ) → (called parser mode stream at) .again ≡ inCrate mode (repeatB parser stream at)

@@ -9,7 +9,7 @@ use Rattle.records.specs.Text.{Text}
 use Rattle.records.specs.Sound.{Sound}
 use Rattle.records.specs.declared.Parser.{Parser}
 use Rattle.records.specs.declared.Verdict.the-variants.{Accepted}
-use Rattle.tokens.specs.Tokens.{streamOf}
+use Rattle.stream.specs.Stream.{streamOf}
 use Rattle.parse.specs.declared.Parse.{Parse}
 use Rattle.parse.specs.declared.Pushed.{Pushed}
 use Rattle.segment.specs.Runs.{callsAt, callsOf, characters, Ran, Roomy}

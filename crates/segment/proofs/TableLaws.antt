@@ -28,13 +28,13 @@ use Rattle.tables.specs.KhmerTable.{khmerTable}
 use Rattle.complex.specs.Grammar as Complex-rules
 use Rattle.residual.proofs.Residual.{first, Fine, Inside, Calm, calm-free}
 use Rattle.tables.proofs.Pairs.{pair-law}
-use Rattle.segment.proofs.Turn.{joiner, Between, Next, After, start-turn, joiner-turn, under-turn}
+use Rattle.segment.proofs.TableTurn.{joiner, Between, Next, After, start-turn, joiner-turn, under-turn}
 use Rattle.tables.proofs.Cells.{Cell, over, sets-as, cellOf, fresh, orFresh, decodedBy, okay}
 use Rattle.tables.proofs.SimpleRules as simple
 use Rattle.tables.proofs.SimpleFine as simple-fine
 use Rattle.tables.proofs.MyanmarRules as my
 use Rattle.tables.proofs.MyanmarFine as my-fine
-use Rattle.tables.proofs.MyanmarCalm.{calm-myanmar}
+use Rattle.tables.proofs.MyanmarEnd.{calm-myanmar}
 use Rattle.tables.proofs.ComplexRules as cx
 use Rattle.tables.proofs.KhmerRules as kh
 use Rattle.tables.proofs.UseFine as use-fine

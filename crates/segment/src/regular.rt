@@ -4,7 +4,7 @@ use records::Parser;
 use records::cells::joined;
 use tables::is_regular_myanmar;
 use tables::is_regular_use;
-use tokens::is_split_sign;
+use stream::is_split_sign;
 ghost use mathlib.Core.Path.{_≡_};
 ghost use mathlib.Core.Bool.{true};
 ghost use lib.ListN.{length};
