@@ -7,6 +7,7 @@ use mathlib.Core.List.{List, [], _∷_}
 use lib.Dec.{eqb}
 use lib.ListN.{length, getD}
 use borrow.Author.Tests.{eq-eqb, ne-eqb}
+use Rattle.basics.proofs.Choices.{choices}
 use Rattle.classes.specs.declared.Mode.{Mode}
 use Rattle.records.specs.declared.Parser.{Parser}
 use Rattle.words.specs.declared.WordState.{WordState}
@@ -24,7 +25,6 @@ use Rattle.cases.specs.Items.{itemsOf, isItem, fieldOf}
 use Rattle.cases.specs.Lines.{skipped, askedOf, textIn, moded, textLine, wordsLine, stateOf, stepTo, nextLine, kindLine, lineOf}
 use Rattle.cases.specs.Numbers.{numberOf}
 use Rattle.cases.specs.Parts.{part, count, equal, sign}
-use Rattle.cases.proofs.Choices.{choices}
 
 -- what a call says of a part, said of the line
 pub same-of : (p q l : List ℕ) (t : Bool) → p ≡ q → t ≡ equal p l → t ≡ equal q l

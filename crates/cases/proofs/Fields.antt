@@ -9,14 +9,15 @@ use lib.Dec.{eqb, ltb}
 use lib.ListN.{length, drop, set, length-append}
 use lib.Seq.{drop-cons, set-at}
 use borrow.Author.Tests.{eq-eqb, ne-eqb}
+use Rattle.basics.proofs.Sets.{every-more, every-fails}
+use Rattle.basics.specs.Sets.{every}
 use Rattle.cases.specs.declared.items.Kind.{Kind}
 use Rattle.cases.specs.declared.items.Kind.the-variants.{Record, Part, Word, State}
 use Rattle.cases.specs.declared.numbers.Number.{Number}
 use Rattle.cases.specs.declared.numbers.Number.the-variants.{Value, Nothing}
 use Rattle.cases.specs.Items.{commasOf, fits, recordField, partField, stateField, isField, fieldFits, isItem, itemFits, itemCount, itemsOf, fieldOf, cellOf, cells}
 use Rattle.cases.specs.Numbers.{numberOf}
-use Rattle.cases.specs.Parts.{part, count, allBelow, upTo, rest}
-use Rattle.cases.proofs.Choices.{all-more, all-fails}
+use Rattle.cases.specs.Parts.{part, count, upTo, rest}
 use Rattle.cases.proofs.Digits.{read-within}
 use Rattle.cases.proofs.Splits.{part-read}
 
@@ -76,16 +77,16 @@ module _ (kind : Kind) (item : List ℕ) (n last : ℕ) (en : n ≡ count 44 ite
     item-fails l p t ep et f =
         rw (← en, ← el, eq-eqb n last h)
         (let i : k < last + 1 = omega arith in
-        sym (all-fails (fieldFits kind item) (last + 1) k i (rw (← ep, ← et) f)))
+        sym (every-fails (fieldFits kind item) (last + 1) k i (rw (← ep, ← et) f)))
 
-    pub item-all : allBelow (fieldFits kind item) k ≡ true → k ≡ last + 1 → true ≡ isItem kind item
+    pub item-all : every (fieldFits kind item) k ≡ true → k ≡ last + 1 → true ≡ isItem kind item
     unfolding isItem
     item-all a f = rw (← en, ← el, eq-eqb n last h, ← f) (sym a)
 
-pub item-more : (kind : Kind) (item : List ℕ) (k : ℕ) (p : List ℕ) (t : Bool) → allBelow (fieldFits kind item) k ≡ true
-    → p ≡ part 44 k item → t ≡ isField kind k p → t ≡ true → allBelow (fieldFits kind item) (k + 1) ≡ true
+pub item-more : (kind : Kind) (item : List ℕ) (k : ℕ) (p : List ℕ) (t : Bool) → every (fieldFits kind item) k ≡ true
+    → p ≡ part 44 k item → t ≡ isField kind k p → t ≡ true → every (fieldFits kind item) (k + 1) ≡ true
 unfolding fieldFits
-item-more kind item k p t a ep et h = all-more (fieldFits kind item) k a (rw (← ep, ← et) h)
+item-more kind item k p t a ep et h = every-more (fieldFits kind item) k a (rw (← ep, ← et) h)
 
 pub none-counted : (kind : Kind) (xs : List ℕ) → length xs ≡ 0 → Value 0 ≡ itemsOf kind xs
 unfolding itemsOf
@@ -97,17 +98,17 @@ module _ (kind : Kind) (xs : List ℕ) (i at : ℕ) (left : drop at xs ≡ rest 
   unfolding itemFits
   here = et ∙ ap (isItem kind) (part-read 32 xs i at left p ep)
 
-  pub items-more : allBelow (itemFits kind xs) i ≡ true → t ≡ true → allBelow (itemFits kind xs) (i + 1) ≡ true
-  items-more a h = all-more (itemFits kind xs) i a (sym here ∙ h)
+  pub items-more : every (itemFits kind xs) i ≡ true → t ≡ true → every (itemFits kind xs) (i + 1) ≡ true
+  items-more a h = every-more (itemFits kind xs) i a (sym here ∙ h)
 
   pub items-fail : (length xs ≡ 0 → ⊥) → (last : ℕ) → last ≡ count 32 xs → i ≤ last → t ≡ false → Nothing ≡ itemsOf kind xs
   unfolding itemsOf
   items-fail z last e l h =
       rw (ne-eqb _ _ z, ← e)
       (let k : i < last + 1 = omega arith in
-      rw (all-fails (itemFits kind xs) (last + 1) i k (sym here ∙ h)))
+      rw (every-fails (itemFits kind xs) (last + 1) i k (sym here ∙ h)))
 
-  pub items-all : (length xs ≡ 0 → ⊥) → (last : ℕ) → last ≡ count 32 xs → i ≡ last → allBelow (itemFits kind xs) i ≡ true → t ≡ true → (c : ℕ) → c ≡ itemCount last → Value c ≡ itemsOf kind xs
+  pub items-all : (length xs ≡ 0 → ⊥) → (last : ℕ) → last ≡ count 32 xs → i ≡ last → every (itemFits kind xs) i ≡ true → t ≡ true → (c : ℕ) → c ≡ itemCount last → Value c ≡ itemsOf kind xs
   unfolding itemsOf
   items-all z last e l a h c ec = rw (ne-eqb _ _ z, ← e, ← l, items-more a h) (ap Value (ec ∙ ap itemCount (sym l)))
 

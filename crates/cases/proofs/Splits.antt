@@ -9,9 +9,10 @@ use lib.Dec.{eqb, ltb}
 use lib.ListN.{length, getD, take, drop, drop-of-length-le, length-drop}
 use lib.Seq.{drop-cons, drop-drop}
 use borrow.Author.Tests.{eq-eqb, ne-eqb, lt-ltb, le-ltb, ltb-false}
+use Rattle.basics.proofs.Sets.{every-more, every-fails}
+use Rattle.basics.specs.Sets.{every}
 use Rattle.records.proofs.Unique.{unique}
-use Rattle.cases.specs.Parts.{before, upTo, after, nextFrom, rest, part, count, allBelow, agree, equal}
-use Rattle.cases.proofs.Choices.{all-more, all-fails}
+use Rattle.cases.specs.Parts.{before, upTo, after, nextFrom, rest, part, count, agree, equal}
 
 -- at byte i, of the loops that look for a separator and that count them: k is what they answer
 module _ (s : ℕ) (xs : List ℕ) (i k : ℕ) where
@@ -116,12 +117,12 @@ module _ (xs ys : List ℕ) where
   module _ (h : length xs ≡ length ys) where
     pub equal-fails : (i : ℕ) → i < length xs → (getD xs i 0 ≡ getD ys i 0 → ⊥) → false ≡ equal xs ys
     unfolding equal agree
-    equal-fails i l n = rw (eq-eqb _ _ h) (sym (all-fails (agree xs ys) _ i l (ne-eqb _ _ n)))
+    equal-fails i l n = rw (eq-eqb _ _ h) (sym (every-fails (agree xs ys) _ i l (ne-eqb _ _ n)))
 
-    pub equal-all : (i : ℕ) → allBelow (agree xs ys) i ≡ true → i ≡ length xs → true ≡ equal xs ys
+    pub equal-all : (i : ℕ) → every (agree xs ys) i ≡ true → i ≡ length xs → true ≡ equal xs ys
     unfolding equal
     equal-all i a e = rw (eq-eqb _ _ h, ← e) (sym a)
 
-  pub equal-more : (i : ℕ) → allBelow (agree xs ys) i ≡ true → getD xs i 0 ≡ getD ys i 0 → allBelow (agree xs ys) (i + 1) ≡ true
+  pub equal-more : (i : ℕ) → every (agree xs ys) i ≡ true → getD xs i 0 ≡ getD ys i 0 → every (agree xs ys) (i + 1) ≡ true
   unfolding agree
-  equal-more i a e = all-more (agree xs ys) i a (eq-eqb _ _ e)
+  equal-more i a e = every-more (agree xs ys) i a (eq-eqb _ _ e)

@@ -4,12 +4,13 @@ use mathlib.Core.Bool.{Bool, cond, _&&_}
 use mathlib.Core.List.{List, [], _∷_, _++_}
 use lib.Dec.{eqb, ltb}
 use lib.ListN.{length}
+use Rattle.basics.specs.Sets.{every}
 use Rattle.cases.specs.declared.items.Kind.{Kind}
 use Rattle.cases.specs.declared.items.Kind.the-variants.{Record, Part, Word, State}
 use Rattle.cases.specs.declared.numbers.Number.{Number}
 use Rattle.cases.specs.declared.numbers.Number.the-variants.{Value, Nothing}
 use Rattle.cases.specs.Numbers.{numberOf, isNumber, orZero}
-use Rattle.cases.specs.Parts.{part, count, allBelow}
+use Rattle.cases.specs.Parts.{part, count}
 
 -- "record = 14 fields with commas between", a part and a word state have 4, a word has 2
 abbrev pub commasOf : Kind → ℕ
@@ -45,7 +46,7 @@ unfoldable pub fieldFits : Kind → List ℕ → ℕ → Bool
 fieldFits kind item k = isField kind k (part 44 k item)
 
 unfoldable pub isItem : Kind → List ℕ → Bool
-isItem kind item = eqb (count 44 item) (commasOf kind) && allBelow (fieldFits kind item) (commasOf kind + 1)
+isItem kind item = eqb (count 44 item) (commasOf kind) && every (fieldFits kind item) (commasOf kind + 1)
 
 unfoldable pub itemFits : Kind → List ℕ → ℕ → Bool
 itemFits kind xs i = isItem kind (part 32 i xs)
@@ -58,7 +59,7 @@ itemCount blanks = cond (ltb blanks 4096) (blanks + 1) 4097
 unfoldable pub itemsOf : Kind → List ℕ → Number
 itemsOf kind xs =
     cond (eqb (length xs) 0) (Value 0)
-    (cond (allBelow (itemFits kind xs) (count 32 xs + 1)) (Value (itemCount (count 32 xs))) Nothing)
+    (cond (every (itemFits kind xs) (count 32 xs + 1)) (Value (itemCount (count 32 xs))) Nothing)
 
 -- the value of field k of an item
 unfoldable pub fieldOf : ℕ → ℕ → ℕ → List ℕ → ℕ

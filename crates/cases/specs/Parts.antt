@@ -38,11 +38,6 @@ unfoldable pub count : ℕ → List ℕ → ℕ
 count s [] = 0
 count s (x ∷ xs) = cond (eqb x s) (suc (count s xs)) (count s xs)
 
--- whether p is true of every number below n
-unfoldable pub allBelow : (ℕ → Bool) → ℕ → Bool
-allBelow p zero = true
-allBelow p (suc n) = allBelow p n && p n
-
 unfoldable pub agree : List ℕ → List ℕ → ℕ → Bool
 agree xs ys i = eqb (getD xs i 0) (getD ys i 0)
 

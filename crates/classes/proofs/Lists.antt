@@ -9,6 +9,7 @@ use native.Mathlib.Omega.{arith}
 use lib.Dec.{eqb}
 use lib.ListN.{length, getD}
 use borrow.Author.Tests.{eqb-true}
+use Rattle.basics.proofs.Tests.{both}
 use Rattle.classes.specs.ClusterBreak as ClusterBreak
 use Rattle.classes.specs.UseClass as UseClass
 use Rattle.classes.specs.MyanmarClass as MyanmarClass
@@ -20,10 +21,6 @@ use Rattle.classes.specs.Shape as Shape
 abbrev pub counts : ℕ → List ℕ → Bool
 counts i [] = true
 counts i (x ∷ xs) = eqb x i && counts (suc i) xs
-
-both : (a b : Bool) → (a && b) ≡ true → (a ≡ true) × (b ≡ true)
-both true b e = (refl, e)
-both false b e = absurd (let z : _≡_ {A = ℕ} 0 1 = cc in omega arith)
 
 code-from : (xs : List ℕ) (i : ℕ) → counts i xs ≡ true → (k : ℕ) → k < length xs → getD xs k 0 ≡ i + k
 code-from [] i e k h = absurd (omega arith)

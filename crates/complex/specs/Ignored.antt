@@ -5,6 +5,7 @@ use mathlib.Core.Path.{_≡_}
 use mathlib.Core.Bool.{Bool, true, false, cond}
 use mathlib.Core.List.{List, [], _∷_, map}
 use lib.ListN.{length}
+use Rattle.basics.specs.Sets.{member}
 use Rattle.classes.specs.Scalar.{CGJ}
 use Rattle.classes.specs.declared.Mode.the-variants.{Crate}
 use Rattle.classes.specs.declared.Shape.the-variants.{Base, Reph, Vs, Other}
@@ -13,7 +14,7 @@ use Rattle.token.specs.Token.{scalarOf, kindOf, packed}
 use Rattle.parse.specs.declared.Parse.{Parse}
 use Rattle.parse.specs.declared.Flow.the-variants.{GoOn}
 use Rattle.parse.specs.State.{tokenAt, startPlace, clusterOf, placeOf, begin, going, withFlow}
-use Rattle.parse.specs.Rule.{Rule, Test, mark, choose, _▸_, run, holds, take, acceptAs, many, is, isEmoji, oneOf, member, setBroken}
+use Rattle.parse.specs.Rule.{Rule, Test, mark, choose, _▸_, run, holds, take, acceptAs, many, is, isEmoji, oneOf, setBroken}
 use Rattle.parse.specs.Shared.{emojis, otherArm}
 use Rattle.complex.specs.Grammar.{byKind, baseVs, symbolMarks, consonantMarks, isSymbolMark, number, symbol, syllable, cluster}
 

@@ -8,6 +8,7 @@ use lib.Dec.{ltb}
 use lib.ListN.{length, take, set, getD, length-map, length-take}
 use lib.Seq.{length-take-le}
 use borrow.Author.Tests.{lt-ltb, le-ltb, ltb-false}
+use Rattle.basics.proofs.Tests.{if-intro}
 use Rattle.classes.specs.declared.Mode.{Mode}
 use Rattle.records.specs.Text.{Text}
 use Rattle.records.specs.declared.Parser.{Parser}
@@ -16,7 +17,6 @@ use Rattle.records.specs.declared.Side.the-variants.{Neither}
 use Rattle.parse.specs.declared.Pushed.{Pushed}
 use Rattle.parse.specs.declared.Cluster.{Cluster}
 use Rattle.parse.specs.State.{nothing, emptyCluster}
-use Rattle.parse.proofs.Loop.{if-intro}
 use Rattle.segment.specs.declared.Segmenter.{Segmenter}
 use Rattle.segment.specs.declared.Answer.{Answer}
 use Rattle.segment.specs.declared.What.{What}

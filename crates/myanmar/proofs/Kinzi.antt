@@ -10,6 +10,8 @@ use lib.Dec.{eqb, ltb}
 use lib.ListN.{length, drop, drop-of-length-le, List·getD-eq-default}
 use lib.Seq.{drop-cons}
 use borrow.Author.Tests.{lt-ltb, le-ltb, ltb-true, ltb-false, eqb-true}
+use Rattle.basics.proofs.Tests.{both-of, if-same, by-test}
+use Rattle.basics.specs.Sets.{member}
 use Rattle.classes.specs.declared.Mode.{Mode}
 use Rattle.classes.specs.declared.Shape.the-variants.{Kinzi, Other}
 use Rattle.classes.specs.Scalar.{CGJ, kinziFirsts, ASAT, VIRAMA}
@@ -18,8 +20,7 @@ use Rattle.parse.specs.declared.Parse.{Parse}
 use Rattle.parse.specs.declared.Flow.{Flow}
 use Rattle.parse.specs.declared.Flow.the-variants.{GoOn, Stop, Full, End}
 use Rattle.parse.specs.State.{tokenAt, begin, isGoing, going, withPlace, putOf, stepOf, pushOf, retriedOf}
-use Rattle.parse.specs.Rule.{run, takeOf, thriceOf, member, thrice}
-use Rattle.parse.proofs.Loop.{both, if-same, by-test}
+use Rattle.parse.specs.Rule.{run, takeOf, thriceOf, thrice}
 use Rattle.parse.proofs.Moves.{step-over, step-stays}
 use Rattle.parse.proofs.Steps.{plus, put-plus, moved-next, moved-end, moved-full, step-next, take-next, going-flow, retried-going}
 use Rattle.myanmar.specs.Grammar.{scalarAt, isKinzi, kinzi, cluster}
@@ -34,7 +35,7 @@ scalar-inside text i x e h = by-test (ltb i (length text)) (ltb-true i (length t
 module _ (text : List ℕ) (i : ℕ) (k : isKinzi text i ≡ true) where
   pub kinzi-second : (scalarAt text (i + 1) ≡ ASAT) × (scalarAt text (i + 2) ≡ VIRAMA)
   unfolding isKinzi
-  kinzi-second = let z = both (member kinziFirsts (scalarAt text i)) _ k .1 in let y = both (eqb (scalarAt text (i + 1)) ASAT) _ z in
+  kinzi-second = let z = both-of (member kinziFirsts (scalarAt text i)) _ k .1 in let y = both-of (eqb (scalarAt text (i + 1)) ASAT) _ z in
       (eqb-true (scalarAt text (i + 1)) ASAT (y .0), eqb-true (scalarAt text (i + 2)) VIRAMA (y .1))
 
   pub kinzi-inside : i + 2 < length text

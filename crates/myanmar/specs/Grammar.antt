@@ -4,12 +4,13 @@ use Prim.Native.Nat.{ℕ, _+_}
 use mathlib.Core.Bool.{false, cond}
 use mathlib.Core.List.{List, [], _∷_}
 use lib.Dec.{eqb}
+use Rattle.basics.specs.Sets.{member}
 use Rattle.classes.specs.declared.Shape.the-variants.{Base, Kinzi, Halant, VPre as VPre-shape, VBlw as VBlw-shape, MedialRa, Anusvara, Vs, Other}
 use Rattle.classes.specs.MyanmarClass.{A, As, C, D, D0, DB, H, IV, J, MH, MR, MW, MY, O, P, PT, R, S, «V», VAbv, VBlw, VPre, VPst, VS, WJ}
 use Rattle.classes.specs.Scalar.{kinziFirsts, ASAT, VIRAMA}
 use Rattle.token.specs.Token.{scalarOf}
 use Rattle.parse.specs.State.{tokenAt}
-use Rattle.parse.specs.Rule.{Rule, Test, skip, stop, mark, choose, while, thrice, _▸_, take, accept, acceptAs, many, manyAs, is, isEmoji, member, oneOf, setBroken}
+use Rattle.parse.specs.Rule.{Rule, Test, skip, stop, mark, choose, while, thrice, _▸_, take, accept, acceptAs, many, manyAs, is, isEmoji, oneOf, setBroken}
 use Rattle.parse.specs.Shared.{emojis, otherArm}
 
 -- the scalar of the token at a place

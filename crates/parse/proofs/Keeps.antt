@@ -9,6 +9,7 @@ use native.Mathlib.Nat.{le-refl, le-trans}
 use lib.Dec.{ltb}
 use lib.ListN.{length}
 use borrow.Author.Tests.{ltb-true}
+use Rattle.basics.proofs.Tests.{if-intro}
 use Rattle.classes.specs.declared.Shape.{Shape}
 use Rattle.classes.specs.declared.Shape.the-variants.{Other}
 use Rattle.parse.specs.declared.Parse.{Parse}
@@ -20,7 +21,7 @@ use Rattle.parse.specs.declared.Flow.{Flow}
 use Rattle.parse.specs.declared.Flow.the-variants.{GoOn, Stop}
 use Rattle.parse.specs.State.{tokenAt, placeAfter, filledAt, placeOf, going, withFlow, withCells, withInfo, withAgain, putOf, notedOf, movedOf, stepOf, pushOf, noteOf, onJoiner, hop, goOn, passesEnd, resumedOf, retriedOf}
 use Rattle.parse.specs.Rule.{Rule, skip, stop, push, note, mark, seq, choose, while, part, thrice, run, holds, takeOf, thriceOf}
-use Rattle.parse.proofs.Loop.{if-intro, loop-keeps}
+use Rattle.parse.proofs.Loop.{loop-keeps}
 use Rattle.parse.proofs.Moves.{joiner-going, moved-case, moved-at}
 
 -- I holds where the current token is still to be pushed or noted, J where it has been and is to be stepped off

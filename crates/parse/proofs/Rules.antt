@@ -2,11 +2,12 @@
 -- over a ruleset follows the code. Assumes nothing.
 use Prim.Native.Nat.{ℕ, _<_}
 use mathlib.Core.Path.{_≡_, refl, sym, _∙_, ap}
-use mathlib.Core.Bool.{Bool, true, false, cond}
+use mathlib.Core.Bool.{Bool, true, false, cond, false≢true, _||_}
 use mathlib.Core.List.{List, [], _∷_}
 use lib.Dec.{eqb}
 use lib.ListN.{length}
 use borrow.Author.Tests.{eq-eqb, ne-eqb}
+use Rattle.basics.specs.Sets.{member}
 use Rattle.classes.specs.declared.Shape.{Shape}
 use Rattle.classes.specs.declared.Shape.the-variants.{Other}
 use Rattle.token.specs.Token.{kindOf}
@@ -14,8 +15,7 @@ use Rattle.parse.specs.declared.Parse.{Parse}
 use Rattle.parse.specs.declared.Info.{Info}
 use Rattle.parse.specs.declared.Flow.the-variants.{Stop}
 use Rattle.parse.specs.State.{tokenAt, turns, going, withFlow, withInfo, movedOf, onJoiner, pushOf, notedOf, noteOf, stepOf, resumedOf, retriedOf}
-use Rattle.parse.specs.Rule.{Test, Rule, skip, stop, push, note, mark, seq, choose, while, part, thrice, run, takeOf, thriceOf, holds, take, either, member, oneOf, kindHere, is}
-use Rattle.parse.proofs.Loop.{false-true}
+use Rattle.parse.specs.Rule.{Test, Rule, skip, stop, push, note, mark, seq, choose, while, part, thrice, run, takeOf, thriceOf, holds, take, either, oneOf, kindHere, is}
 use Rattle.parse.proofs.Moves.{joiner-going, step-over}
 use Rattle.parse.proofs.Runs.{moves, run-still, run-goes, run-stays, run-falls, run-seq, run-then, run-else}
 
@@ -76,13 +76,13 @@ pub ruleset rules = (by-skip, by-push, by-note, by-part, by-thrice, by-stop, by-
 -- for more arms than `rules` reaches
 pub ruleset arms = (by-then, by-else, by-seq)
 
-either-true : (g a b : Bool) → cond g a false ≡ true → true ≡ cond g (cond a true b) false
+either-true : (g a b : Bool) → cond g a false ≡ true → true ≡ cond g (a || b) false
 either-true true true b k = refl
-either-true true false b k = absurd (false-true k)
-either-true false a b k = absurd (false-true k)
+either-true true false b k = absurd (false≢true k)
+either-true false a b k = absurd (false≢true k)
 
-either-false : (g a b : Bool) → cond g a false ≡ false → cond g b false ≡ cond g (cond a true b) false
-either-false true true b k = absurd (false-true (sym k))
+either-false : (g a b : Bool) → cond g a false ≡ false → cond g b false ≡ cond g (a || b) false
+either-false true true b k = absurd (false≢true (sym k))
 either-false true false b k = refl
 either-false false a b k = refl
 
@@ -108,7 +108,7 @@ module _ (text : List ℕ) (s : Parse) (t : Bool) where
   unfolding oneOf
   one-last k e = e ∙ go (going s) (is k text (s .at))
     where
-      go : (g a : Bool) → cond g a false ≡ cond g (cond a true false) false
+      go : (g a : Bool) → cond g a false ≡ cond g (a || false) false
       go true true = refl
       go true false = refl
       go false a = refl
@@ -123,22 +123,6 @@ module _ (text : List ℕ) (s : Parse) (t : Bool) where
       go false x = n
 
 pub ruleset tests = (either-first, either-second, one-first, one-next, one-last, kind-member)
-
-pub member-here : (x k : ℕ) (xs : List ℕ) → k ≡ x → true ≡ member (x ∷ xs) k
-member-here x k xs e = rw (eq-eqb k x e)
-
-pub member-next : (x k : ℕ) (xs : List ℕ) (t : Bool) → (k ≡ x → ⊥) → t ≡ member xs k → t ≡ member (x ∷ xs) k
-member-next x k xs t n e = rw (ne-eqb k x n) e
-
-pub member-last : (x k : ℕ) → eqb k x ≡ member (x ∷ []) k
-member-last x k = go (eqb k x)
-  where
-    go : (b : Bool) → b ≡ cond b true false
-    go true = refl
-    go false = refl
-
--- a kind against a list, one `if` after the other
-pub ruleset members = (member-here, member-next, member-last)
 
 -- a step onto a U+034F, m, which is then taken
 pub step-onto : (text : List ℕ) (s m r : Parse) → m ≡ movedOf (length text) s → onJoiner text m ≡ true → r ≡ run (take Other) text m → r ≡ stepOf text s

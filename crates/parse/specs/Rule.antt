@@ -1,8 +1,9 @@
 -- The grammar of a parser as data, and what it does: a rule for each Rust function, and one meaning, `run`, for both modes.
 use Prim.Native.Nat.{ℕ}
-use mathlib.Core.Bool.{Bool, true, false, cond}
+use mathlib.Core.Bool.{Bool, true, false, cond, _||_}
 use mathlib.Core.List.{List, [], _∷_}
 use lib.Dec.{eqb}
+use Rattle.basics.specs.Sets.{member}
 use Rattle.classes.specs.declared.Shape.{Shape}
 use Rattle.classes.specs.declared.Shape.the-variants.{Other}
 use Rattle.token.specs.Token.{scalarOf, kindOf, breakOf, emojiOf, selectorOf}
@@ -85,11 +86,7 @@ abbrev pub isSelector : Test
 isSelector text i = eqb (selectorOf (tokenAt text i)) 1
 
 unfoldable pub either : Test → Test → Test
-either p q text i = cond (p text i) true (q text i)
-
-abbrev pub member : List ℕ → ℕ → Bool
-member [] k = false
-member (x ∷ xs) k = cond (eqb k x) true (member xs k)
+either p q text i = p text i || q text i
 
 -- the kind is one of a list
 unfoldable pub oneOf : List ℕ → Test

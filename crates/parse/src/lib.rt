@@ -1,10 +1,10 @@
 // The cluster under construction: what a call of a parser changes as it goes, and what it hands back. The three grammars are
 // built of its methods, which carry the names that they have in the Rust.
 pub mod actions;
-pub mod emoji_loop;
-pub mod class_o;
-pub mod state;
 pub mod asks;
+pub mod class_o;
+pub mod emoji_loop;
+pub mod state;
 
 use classes::Mode;
 use classes::Shape;

@@ -2,7 +2,7 @@
 -- text and any b, for calls that stay below 32 characters. Assumes nothing.
 use Prim.Native.Nat.{ℕ, zero, suc, _+_, _<_, _≤_}
 use mathlib.Core.Path.{_≡_, refl, sym, _∙_, ap, subst}
-use mathlib.Core.Bool.{Bool, true, false, cond}
+use mathlib.Core.Bool.{Bool, true, false, cond, false≢true}
 use mathlib.Core.List.{List}
 use mathlib.Core.Logic.{_⊎_, ⊎-elim}
 use native.Mathlib.Nat.{eq-or-lt-of-le, le-refl}
@@ -10,6 +10,7 @@ use native.Mathlib.Omega.{arith}
 use lib.Dec.{ltb}
 use lib.ListN.{length}
 use borrow.Author.Tests.{lt-ltb}
+use Rattle.basics.proofs.Tests.{if-intro, by-test}
 use Rattle.classes.specs.declared.Shape.{Shape}
 use Rattle.classes.specs.declared.Shape.the-variants.{Other}
 use Rattle.parse.specs.declared.Parse.{Parse}
@@ -18,7 +19,7 @@ use Rattle.parse.specs.declared.Flow.{Flow}
 use Rattle.parse.specs.declared.Flow.the-variants.{GoOn, Stop, End}
 use Rattle.parse.specs.State.{tokenAt, placeAfter, turns, isGoing, going, putOf, notedOf, movedOf, stepOf, pushOf, noteOf, goOn, resumedOf, passesEnd}
 use Rattle.parse.specs.Rule.{Rule, Test, skip, stop, push, note, mark, seq, choose, while, part, run, holds}
-use Rattle.parse.proofs.Loop.{false-true, if-intro, by-test, loop-keeps}
+use Rattle.parse.proofs.Loop.{loop-keeps}
 use Rattle.parse.proofs.Moves.{put-same, noted-same, moved-case, step-stays}
 use Rattle.parse.proofs.Keeps.{run-keeps}
 use Rattle.parse.proofs.Runs.{moves, run-still, run-goes, run-stays, run-falls, run-seq}
@@ -85,7 +86,7 @@ while-leaves p a text m (suc n) s l = by-test (holds text p s)
     (λ h. subst (λ (q : Parse). holds text p q ≡ false) (sym (run-stays p a text s h)) h)
 
 no-joiner : (g j x : Bool) → j ≡ false → cond g (cond j x false) false ≡ false
-no-joiner true true x e = absurd (false-true (sym e))
+no-joiner true true x e = absurd (false≢true (sym e))
 no-joiner true false x e = refl
 no-joiner false j x e = refl
 
@@ -117,13 +118,13 @@ module _ (text : List ℕ) (b : ℕ → Bool) (from : ℕ) where
     unfolding run
     mark-after f {R = R} {T = T} x = if-intro (λ (q : Parse). After text b from R T q) (going s) _ _
         (λ g. goes (record { flow = st .flow; done = st .done; joins = st .joins; again = st .again; inside = st .inside; later = st .later; past = st .past }) x)
-        (λ g. absurd (false-true (sym g ∙ goes-on)))
+        (λ g. absurd (false≢true (sym g ∙ goes-on)))
 
     pub stop-after : {R T : ℕ → Type 0} → T (s .at) → After text b from R T (run stop text s)
     unfolding run
     stop-after {R = R} {T = T} x = if-intro (λ (q : Parse). After text b from R T q) (going s) _ _
         (λ g. halted (record { flow = refl; done = st .done; joins = st .joins; again = st .again; inside = st .inside; later = st .later; past = st .past }) x)
-        (λ g. absurd (false-true (sym g ∙ goes-on)))
+        (λ g. absurd (false≢true (sym g ∙ goes-on)))
 
     module _ (may : (s .at ≡ from) ⊎ (b (s .at) ≡ false)) where
       -- the token is this cluster's
@@ -160,7 +161,7 @@ module _ (text : List ℕ) (b : ℕ → Bool) (from : ℕ) where
           (λ g. step-after (putOf t (f t) s)
           (put-same (λ (q : Parse). q .flow) (λ n cs q. refl) t s (f t)) (put-same (λ (q : Parse). q .done) (λ n cs q. refl) t s (f t))
           (put-same (λ (q : Parse). q .joins) (λ n cs q. refl) t s (f t)) (put-same (λ (q : Parse). q .again) (λ n cs q. refl) t s (f t)) (put-same (λ (q : Parse). q .at) (λ n cs q. refl) t s (f t)) r)
-          (λ g. absurd (false-true (sym g ∙ goes-on)))
+          (λ g. absurd (false≢true (sym g ∙ goes-on)))
 
       pub note-after : {R T : ℕ → Type 0} → (s .at + 1 < length text → R (s .at + 1)) → After text b from R T (run note text s)
       unfolding run noteOf
@@ -170,7 +171,7 @@ module _ (text : List ℕ) (b : ℕ → Bool) (from : ℕ) where
           (λ g. step-after (notedOf t s)
           (noted-same (λ (q : Parse). q .flow) (λ n cs q. refl) t s) (noted-same (λ (q : Parse). q .done) (λ n cs q. refl) t s)
           (noted-same (λ (q : Parse). q .joins) (λ n cs q. refl) t s) (noted-same (λ (q : Parse). q .again) (λ n cs q. refl) t s) (noted-same (λ (q : Parse). q .at) (λ n cs q. refl) t s) r)
-          (λ g. absurd (false-true (sym g ∙ goes-on)))
+          (λ g. absurd (false≢true (sym g ∙ goes-on)))
 
   -- a loop: I holds before every turn
   module _ (p : Test) (a : Rule) (I T : ℕ → Type 0) (turn : (q : Parse) → Stands text b from GoOn q → I (q .at) → p text (q .at) ≡ true → After text b from I T (run a text q)) where
@@ -198,4 +199,4 @@ module _ (text : List ℕ) (b : ℕ → Bool) (from : ℕ) where
   pub part-after : (a : Rule) (s : Parse) {Q S R T : ℕ → Type 0} → Stands text b from GoOn s → After text b from Q S (run a text s) → ((j : ℕ) → j < length text → Q j → R j) → ((j : ℕ) → j < length text → S j → R j) → After text b from R T (run (part a) text s)
   unfolding run
   part-after a s {R = R} {T = T} st i f g = if-intro (λ (q : Parse). After text b from R T q) (going s) _ _
-      (λ h. resumed-after (run a text s) i f g) (λ h. absurd (false-true (sym h ∙ ap isGoing (st .flow))))
+      (λ h. resumed-after (run a text s) i f g) (λ h. absurd (false≢true (sym h ∙ ap isGoing (st .flow))))

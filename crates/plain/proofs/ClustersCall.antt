@@ -2,7 +2,7 @@
 -- Assumes nothing.
 use Prim.Native.Nat.{ℕ, zero, suc, _+_, _<_, _≤_}
 use mathlib.Core.Path.{_≡_, refl, sym, _∙_, ap, subst}
-use mathlib.Core.Bool.{Bool, true, false, cond, _&&_, _||_}
+use mathlib.Core.Bool.{Bool, true, false, cond, _&&_, _||_, false≢true}
 use mathlib.Core.List.{List, [], _∷_}
 use mathlib.Core.Logic.{_⊎_, inl, inr, ⊎-elim}
 use native.Mathlib.Nat.{le-refl}
@@ -11,13 +11,13 @@ use native.Mathlib.Omega.{arith}
 use lib.Dec.{eqb}
 use lib.ListN.{length}
 use borrow.Author.Tests.{eqb-true}
+use Rattle.basics.specs.Sets.{member}
 use Rattle.classes.specs.ClusterBreak.{XX, CN, CR, LF, L, «V», T, LV, LVT, RI, EX, SM, ZWJ, PP}
 use Rattle.classes.specs.declared.Mode.{Mode}
 use Rattle.classes.specs.declared.Shape.{Shape}
 use Rattle.classes.specs.declared.Shape.the-variants.{Base, Mark, Control, Vs, Zwnj, Zwj}
 use Rattle.classes.specs.Scalar.{ZWNJ, VS15, VS16}
 use Rattle.records.specs.Text.{cell}
-use Rattle.records.specs.Refusals.{member}
 use Rattle.token.specs.Token.{kindOf, breakOf, emojiOf}
 use Rattle.parse.specs.declared.Parse.{Parse}
 use Rattle.parse.specs.declared.Info.{Info}
@@ -28,7 +28,6 @@ use Rattle.parse.specs.State.{tokenAt, begin}
 use Rattle.parse.specs.Rule.{Rule, skip, stop, note, mark, seq, choose, while, part, run, take, manyAs, acceptAs, is, isBreak, isScalar, isEmoji, isSelector, oneOf, setBroken, setEmoji, setSpace, setSpaceFromChar, forceNormalize}
 use Rattle.parse.specs.Rule as Parse-rule
 use Rattle.parse.specs.Shared.{emojiMark, emojiExtension, emojiTurn, emojis, newline}
-use Rattle.parse.proofs.Loop.{false-true}
 use Rattle.simple.specs.Grammar.{cluster, start, control, syllable, other, isExtension, extension, extend, combining}
 use Rattle.uax29.specs.Clusters.{boundaryAt}
 use Rattle.plain.specs.Clusters.{extensions}
@@ -56,9 +55,9 @@ neither : (a b : Bool) → a ≡ false → b ≡ false → (a || (b || false)) �
 neither a b e f = rw (e, f)
 
 not-extension : (a b c : Bool) → (a || (b || (c || false))) ≡ false → (a ≡ false) × (c ≡ false)
-not-extension true b c e = absurd (false-true (sym e))
-not-extension false true c e = absurd (false-true (sym e))
-not-extension false false true e = absurd (false-true (sym e))
+not-extension true b c e = absurd (false≢true (sym e))
+not-extension false true c e = absurd (false≢true (sym e))
+not-extension false false true e = absurd (false≢true (sym e))
 not-extension false false false e = (refl, refl)
 
 -- a place at which no call is left
@@ -159,7 +158,7 @@ module _ (stream breaks marks : List ℕ) (shows : Shows stream breaks marks) (p
 
   may-emoji : (j : ℕ) → j < length stream → Head j → eqb (cell marks j) 1 ≡ true → May j
   may-emoji j h (inl e) m = inl e
-  may-emoji zero h (inr z) m = absurd (false-true (sym (Z-start breaks marks) ∙ z))
+  may-emoji zero h (inr z) m = absurd (false≢true (sym (Z-start breaks marks) ∙ z))
   may-emoji (suc i) h (inr z) m = inr (emoji-joins breaks marks plain i (in-columns (suc i) h) z m)
 
   emoji-mark-turn : (q : Parse) → On q → Extended (q .at) → isBreak EX stream (q .at) ≡ true → Left Extended Stopped (run emojiMark stream q)
@@ -196,7 +195,7 @@ module _ (stream breaks marks : List ℕ) (shows : Shows stream breaks marks) (p
       (mark-after stream b from q on (setEmoji Default) {R = λ j. j ≡ from} {T = Nowhere} e)
       (λ u onu x. part-after stream b from (while isEmoji emojiTurn) u onu
       (while-after stream b from isEmoji emojiTurn Head Stopped emoji-turn refl u onu (inl x))
-      (λ j l x. ⊎-elim (λ i. absurd (false-true (sym (x .1) ∙ ap (isEmoji stream) i ∙ h)))
+      (λ j l x. ⊎-elim (λ i. absurd (false≢true (sym (x .1) ∙ ap (isEmoji stream) i ∙ h)))
       (λ z. calm-joined breaks marks plain j (in-columns j l) z (sym (emoji-is j l) ∙ x .1)) (x .0))
       (λ j l x. calm-stopped breaks marks plain j (in-columns j l) (x .0) (x .1)))
       (λ j l x. x)
@@ -216,7 +215,7 @@ module _ (stream breaks marks : List ℕ) (shows : Shows stream breaks marks) (p
     other-after : is CR stream (q .at) ≡ false → Left Quiet Nowhere (run other stream q)
     unfolding other
     other-after cr = choose-after stream b from q on (is RI) _ _
-        (λ h. absurd (false-true (sym (never (q .at) (on .inside) (λ k. eqb k RI) refl refl refl refl refl refl refl) ∙ h)))
+        (λ h. absurd (false≢true (sym (never (q .at) (on .inside) (λ k. eqb k RI) refl refl refl refl refl refl refl) ∙ h)))
         (λ h. choose-after stream b from q on isExtension _ _
         (λ x. mark-after stream b from q on setBroken (subst Quiet (sym e) (calm-start breaks marks plain from (in-columns from inside) starts (subst (λ j. member extensions (cell breaks j) ≡ true) e (sym (extension-is (q .at) (on .inside)) ∙ x)))))
         (λ x. let n = not-extension (eqb (cell breaks (q .at)) EX) (eqb (cell breaks (q .at)) SM) (eqb (cell breaks (q .at)) ZWJ) (sym (extension-is (q .at) (on .inside)) ∙ x) in
@@ -225,11 +224,11 @@ module _ (stream breaks marks : List ℕ) (shows : Shows stream breaks marks) (p
     syllable-after : is CR stream (q .at) ≡ false → Left Quiet Nowhere (run syllable stream q)
     unfolding syllable oneOf
     syllable-after cr = choose-after stream b from q on (is L) _ _
-        (λ h. absurd (false-true (sym (never (q .at) (on .inside) (λ k. eqb k L) refl refl refl refl refl refl refl) ∙ h)))
+        (λ h. absurd (false≢true (sym (never (q .at) (on .inside) (λ k. eqb k L) refl refl refl refl refl refl refl) ∙ h)))
         (λ h. choose-after stream b from q on (oneOf (LV ∷ «V» ∷ [])) _ _
-        (λ x. absurd (false-true (sym (never (q .at) (on .inside) (Parse-rule.member (LV ∷ «V» ∷ [])) refl refl refl refl refl refl refl) ∙ x)))
+        (λ x. absurd (false≢true (sym (never (q .at) (on .inside) (Parse-rule.member (LV ∷ «V» ∷ [])) refl refl refl refl refl refl refl) ∙ x)))
         (λ x. choose-after stream b from q on (oneOf (LVT ∷ T ∷ [])) _ _
-        (λ y. absurd (false-true (sym (never (q .at) (on .inside) (Parse-rule.member (LVT ∷ T ∷ [])) refl refl refl refl refl refl refl) ∙ y)))
+        (λ y. absurd (false≢true (sym (never (q .at) (on .inside) (Parse-rule.member (LVT ∷ T ∷ [])) refl refl refl refl refl refl refl) ∙ y)))
         (λ y. other-after cr)))
 
     -- the LF after a CR
@@ -265,6 +264,6 @@ module _ (stream breaks marks : List ℕ) (shows : Shows stream breaks marks) (p
       let on : On s = record { flow = refl; done = refl; joins = refl; again = refl; inside = inside; later = le-refl _; past = λ k l h. absurd (omega arith) } in
       seq-after stream b from (manyAs PP Base) _ s
       (while-after stream b from (is PP) (take Base) (λ j. j ≡ from) Nowhere
-      (λ q onq e h. absurd (false-true (sym (never (q .at) (onq .inside) (λ k. eqb k PP) refl refl refl refl refl refl refl) ∙ h))) refl s on refl)
+      (λ q onq e h. absurd (false≢true (sym (never (q .at) (onq .inside) (λ k. eqb k PP) refl refl refl refl refl refl refl) ∙ h))) refl s on refl)
       (λ q onq x. seq-after stream b from start _ q (start-after q onq (x .0)) (λ u onu c. extensions-after Nowhere u onu c) (λ j l y. y))
       (λ j l y. y)

@@ -2,12 +2,14 @@
 -- is, does not depend on the mode. For every rule without a kinzi, on any text. Assumes nothing.
 use Prim.Native.Nat.{ℕ, zero, suc, _≤_}
 use mathlib.Core.Path.{_≡_, refl, sym, _∙_, ap, subst}
-use mathlib.Core.Bool.{Bool, true, false, cond, _&&_}
+use mathlib.Core.Bool.{Bool, true, false, cond, _&&_, false≢true}
 use mathlib.Core.List.{List}
 use mathlib.Core.Logic.{_⊎_, inl, inr}
 use lib.Dec.{ltb}
 use lib.ListN.{length}
 use borrow.Author.Tests.{ltb-false, le-ltb}
+use Rattle.basics.specs.Sets.{every}
+use Rattle.basics.proofs.Tests.{if-intro, by-test, both-of}
 use Rattle.classes.specs.declared.Mode.the-variants.{Crate, Whole}
 use Rattle.classes.specs.declared.Shape.{Shape}
 use Rattle.classes.specs.declared.Shape.the-variants.{Other}
@@ -19,12 +21,12 @@ use Rattle.parse.specs.declared.Flow.the-variants.{Full}
 use Rattle.parse.specs.State.{begin, tokenAt, placeAfter, placeOf, turns, isGoing, going, inMode, putOf, notedOf, movedOf, onJoiner, atMost, loop, hop, stepOf, pushOf, noteOf, goOn, resumedOf}
 use Rattle.parse.specs.Rule.{Rule, Test, skip, stop, push, note, mark, seq, choose, while, part, thrice, run, holds}
 use Rattle.parse.specs.Shared.{emojis, emojiTurn, emojiExtension, emojiMark, newline}
-use Rattle.parse.proofs.Loop.{false-true, if-intro, by-test, both, loop-stays}
+use Rattle.parse.proofs.Loop.{loop-stays}
 use Rattle.parse.proofs.Runs.{run-still}
 use Rattle.simple.specs.Grammar.{cluster, start, control, syllable, leading, vowel, trailing, other, extension, extend, combining}
 use Rattle.segment.specs.Calls.{grammar, called}
 use Rattle.segment.specs.Runs.{callsFrom}
-use Rattle.plain.specs.Clusters.{plainAt, every, allShort, isPlain}
+use Rattle.plain.specs.Clusters.{plainAt, allShort, isPlain}
 
 abbrev up : Parse → Parse
 up s = inMode Whole s
@@ -44,11 +46,11 @@ noted-up t s = if-intro (λ q. notedOf t (up s) ≡ up q) (ltb 0 (s .len)) _ _
 moved-up : (n : ℕ) (s : Parse) → ltb (s .len) 32 ≡ true → movedOf n (up s) ≡ up (movedOf n s)
 moved-up n s h = if-intro (λ q. movedOf n (up s) ≡ up q) (ltb (s .len) 32) _ _
     (λ k. if-intro (λ q. movedOf n (up s) ≡ up q) (ltb (placeAfter n (s .at)) n) _ _ (λ e. rw (k, e)) (λ e. rw (k, e)))
-    (λ k. absurd (false-true (sym k ∙ h)))
+    (λ k. absurd (false≢true (sym k ∙ h)))
 
 moved-full : (n : ℕ) (s : Parse) → ltb (s .len) 32 ≡ false → (32 ≤ (movedOf n s) .len) × ((movedOf n s) .flow ≡ Full)
 moved-full n s h = if-intro (λ (q : Parse). (32 ≤ q .len) × (q .flow ≡ Full)) (ltb (s .len) 32) _ _
-    (λ k. absurd (false-true (sym h ∙ k))) (λ k. (ltb-false (s .len) 32 h, refl))
+    (λ k. absurd (false≢true (sym h ∙ k))) (λ k. (ltb-false (s .len) 32 h, refl))
 
 moved-lock : (n : ℕ) (s : Parse) → Lock (movedOf n s) (movedOf n (up s))
 moved-lock n s = by-test (ltb (s .len) 32) (λ h. inl (moved-up n s h))
@@ -89,7 +91,7 @@ module _ (test : Parse → Bool) (body : Parse → Parse) (same : (s : Parse) �
 
 module _ (text : List ℕ) where
   joiner-still : (s : Parse) → going s ≡ false → onJoiner text s ≡ false
-  joiner-still s g = if-intro (λ b. b ≡ false) (going s) _ _ (λ h. absurd (false-true (sym g ∙ h))) (λ h. refl)
+  joiner-still s g = if-intro (λ b. b ≡ false) (going s) _ _ (λ h. absurd (false≢true (sym g ∙ h))) (λ h. refl)
 
   hop-lock : (s : Parse) → Lock (hop text s) (hop text (up s))
   hop-lock s = let t = tokenAt text (s .at) in
@@ -110,7 +112,7 @@ module _ (text : List ℕ) where
       subst (λ (q : Parse). Lock (stepOf text (notedOf t s)) (stepOf text q)) (sym (noted-up t s)) (step-lock (notedOf t s))
 
   test-still : (p : Test) (s : Parse) → going s ≡ false → holds text p s ≡ false
-  test-still p s g = if-intro (λ b. b ≡ false) (going s) _ _ (λ h. absurd (false-true (sym g ∙ h))) (λ h. refl)
+  test-still p s g = if-intro (λ b. b ≡ false) (going s) _ _ (λ h. absurd (false≢true (sym g ∙ h))) (λ h. refl)
 
   resumed-lock : (s u : Parse) → Lock s u → Lock (resumedOf s) (resumedOf u)
   resumed-lock s u (inl e) = inl (ap resumedOf e)
@@ -130,13 +132,13 @@ module _ (text : List ℕ) where
   run-lock (push f) n s = by-test (going s) (λ g. rw g (push-lock (f (tokenAt text (s .at))) s)) (λ g. rw g (inl refl))
   run-lock note n s = by-test (going s) (λ g. rw g (note-lock s)) (λ g. rw g (inl refl))
   run-lock (mark f) n s = inl (by-test (going s) (λ g. rw g) (λ g. rw g))
-  run-lock (seq a b) n s = let k = both (kinziless a) (kinziless b) n in
+  run-lock (seq a b) n s = let k = both-of (kinziless a) (kinziless b) n in
       pair-lock b (run-lock b (k .1)) (run a text s) (run a text (up s)) (run-lock a (k .0) s)
-  run-lock (choose p a b) n s = let k = both (kinziless a) (kinziless b) n in
+  run-lock (choose p a b) n s = let k = both-of (kinziless a) (kinziless b) n in
       by-test (holds text p s) (λ h. rw h (run-lock a (k .0) s)) (λ h. rw h (run-lock b (k .1) s))
   run-lock (while p a) n s = loop-lock (holds text p) (run a text) (λ q. refl) (test-still p) (run-lock a n) text s (up s) (inl refl)
   run-lock (part a) n s = by-test (going s) (λ g. rw g (resumed-lock (run a text s) (run a text (up s)) (run-lock a n s))) (λ g. rw g (inl refl))
-  run-lock (thrice c) n s = absurd (false-true n)
+  run-lock (thrice c) n s = absurd (false≢true n)
 
 -- # The simple parser
 
@@ -151,7 +153,7 @@ short-same p w (inr (l, k, f, g)) = le-ltb (p .len) 32 l ∙ sym (le-ltb (w .len
 
 place-same : (stream : List ℕ) (p w : Parse) → Lock p w → ltb (p .len) 32 ≡ true → placeOf stream p ≡ placeOf stream w
 place-same stream p w (inl e) h = sym (ap (placeOf stream) e)
-place-same stream p w (inr (l, k, f, g)) h = absurd (false-true (sym (le-ltb (p .len) 32 l) ∙ h))
+place-same stream p w (inr (l, k, f, g)) h = absurd (false≢true (sym (le-ltb (p .len) 32 l) ∙ h))
 
 all-short-same : (stream : List ℕ) (n at : ℕ) → allShort (callsFrom Simple Crate stream n at) ≡ allShort (callsFrom Simple Whole stream n at)
 unfolding callsFrom allShort

@@ -2,26 +2,26 @@
 -- Assumes nothing.
 use Prim.Native.Nat.{ℕ, zero, suc, _<_}
 use mathlib.Core.Path.{_≡_, refl, sym, _∙_, ap}
-use mathlib.Core.Bool.{Bool, true, false, cond, _&&_, _||_, and-false}
+use mathlib.Core.Bool.{Bool, true, false, cond, _&&_, _||_, and-false, false≢true}
 use mathlib.Core.List.{List, [], _∷_}
 use native.Mathlib.Omega.{arith}
 use lib.Dec.{eqb}
 use lib.ListN.{length}
 use borrow.Author.Tests.{le-ltb, eqb-true}
+use Rattle.basics.proofs.Sets.{or-case}
+use Rattle.basics.proofs.Tests.{by-test, both}
+use Rattle.basics.specs.Sets.{member}
 use Rattle.classes.specs.ClusterBreak.{XX, CN, CR, LF, EX, SM, ZWJ}
 use Rattle.records.specs.Text.{cell}
-use Rattle.records.specs.Refusals.{member}
-use Rattle.parse.proofs.Loop.{false-true, by-test}
 use Rattle.uax29.specs.Clusters.{controls, Item, is, isNot, among, pictographic, anything, edge, any, one, next, many, applies, decide, rules, itemAt, beforeOf, boundaryAt, GB1, GB2, GB3, GB4, GB5, GB6, GB7, GB8, GB9, GB9a, GB9b, GB11, GB12, GB13, GB999}
 use Rattle.uax29.proofs.ClustersSides.{some-after}
 use Rattle.plain.specs.Clusters.{plainKinds, extensions}
-use Rattle.plain.proofs.Tests.{and-both, or-case}
 
 -- what holds of the seven plain kinds holds of every kind that is plain
 pub kind-case : (P : ℕ → Type 0) → P XX → P EX → P SM → P ZWJ → P CR → P LF → P CN → (k : ℕ) → member plainKinds k ≡ true → P k
 kind-case P xx ex sm zwj cr lf cn k h =
     or-case P k XX h xx (λ h₁. or-case P k EX h₁ ex (λ h₂. or-case P k SM h₂ sm (λ h₃. or-case P k ZWJ h₃ zwj
-    (λ h₄. or-case P k CR h₄ cr (λ h₅. or-case P k LF h₅ lf (λ h₆. or-case P k CN h₆ cn (λ h₇. absurd (false-true h₇))))))))
+    (λ h₄. or-case P k CR h₄ cr (λ h₅. or-case P k LF h₅ lf (λ h₆. or-case P k CN h₆ cn (λ h₇. absurd (false≢true h₇))))))))
 
 -- the rules that are left, in their order: GB3, GB4, GB5, GB9, GB9a, GB11
 unfoldable says : Bool → Bool → Bool → Bool → Bool → Bool → Bool
@@ -43,7 +43,7 @@ pub record Columns (breaks marks : List ℕ) : Type 0 where
 
 pub extension-case : (P : ℕ → Type 0) → P EX → P SM → P ZWJ → (k : ℕ) → member extensions k ≡ true → P k
 extension-case P ex sm zwj k h =
-    or-case P k EX h ex (λ h₁. or-case P k SM h₁ sm (λ h₂. or-case P k ZWJ h₂ zwj (λ h₃. absurd (false-true h₃))))
+    or-case P k EX h ex (λ h₁. or-case P k SM h₁ sm (λ h₂. or-case P k ZWJ h₂ zwj (λ h₃. absurd (false≢true h₃))))
 
 module _ (crlf after before extends spaces joins : Bool) where
   says-newline : crlf ≡ true → says crlf after before extends spaces joins ≡ false
@@ -139,7 +139,7 @@ module _ (breaks marks : List ℕ) (plain : Columns breaks marks) where
     -- GB11
     pub emoji-joins : Z breaks marks (suc i) ≡ true → eqb (cell marks (suc i)) 1 ≡ true → boundaryAt breaks marks (suc i) ≡ false
     emoji-joins z m =
-        let zwj : cell breaks i ≡ ZWJ = eqb-true _ _ (and-both _ _ (sym (Z-next breaks marks i) ∙ z) .0) in
+        let zwj : cell breaks i ≡ ZWJ = eqb-true _ _ (both _ _ (sym (Z-next breaks marks i) ∙ z) .0) in
         let xx : here ≡ XX = plain .mark (suc i) h m in
         boundary-says ∙ says-joins _ _ _ _ _ _ (rw zwj) (rw zwj) (rw xx) (rw (z, m))
 
@@ -149,7 +149,7 @@ module _ (breaks marks : List ℕ) (plain : Columns breaks marks) where
       where
         told : (member (EX ∷ ZWJ ∷ []) here ≡ false) × (eqb here SM ≡ false)
         told = kind-case (λ k. member extensions k ≡ false → (member (EX ∷ ZWJ ∷ []) k ≡ false) × (eqb k SM ≡ false))
-            (λ q. (refl, refl)) (λ q. absurd (false-true (sym q))) (λ q. absurd (false-true (sym q))) (λ q. absurd (false-true (sym q)))
+            (λ q. (refl, refl)) (λ q. absurd (false≢true (sym q))) (λ q. absurd (false≢true (sym q))) (λ q. absurd (false≢true (sym q)))
             (λ q. (refl, refl)) (λ q. (refl, refl)) (λ q. (refl, refl)) here (plain .kind (suc i) h) e
 
   unmarked : (i : ℕ) → i < length breaks → (cell breaks i ≡ XX → ⊥) → eqb (cell marks i) 1 ≡ false
@@ -159,7 +159,7 @@ module _ (breaks marks : List ℕ) (plain : Columns breaks marks) where
   calm-after : (i : ℕ) → P breaks marks (suc i) ≡ false → Z breaks marks (suc i) ≡ false → (eqb (cell breaks i) CR && eqb (cell breaks (suc i)) LF) ≡ false → Calm breaks marks (suc i)
   calm-after i p z c = record {
     joins = rw z;
-    extends = λ q e. false-true (sym p ∙ q);
+    extends = λ q e. false≢true (sym p ∙ q);
     newline = λ k e. let q : k ≡ i = omega arith in rw q c;
   }
 
@@ -176,7 +176,7 @@ module _ (breaks marks : List ℕ) (plain : Columns breaks marks) where
     where
       told : (cell breaks i ≡ XX → ⊥) × (eqb (cell breaks i) CR ≡ false) × (member (EX ∷ ZWJ ∷ []) (cell breaks i) ≡ false → (eqb (cell breaks i) EX ≡ false) × (eqb (cell breaks i) ZWJ ≡ false))
       told = extension-case (λ k. (k ≡ XX → ⊥) × (eqb k CR ≡ false) × (member (EX ∷ ZWJ ∷ []) k ≡ false → (eqb k EX ≡ false) × (eqb k ZWJ ≡ false)))
-          (λ x. omega arith, refl, λ q. absurd (false-true (sym q))) (λ x. omega arith, refl, λ q. (refl, refl)) (λ x. omega arith, refl, λ q. absurd (false-true (sym q))) (cell breaks i) e
+          (λ x. omega arith, refl, λ q. absurd (false≢true (sym q))) (λ x. omega arith, refl, λ q. (refl, refl)) (λ x. omega arith, refl, λ q. absurd (false≢true (sym q))) (cell breaks i) e
 
       cr : (eqb (cell breaks i) CR && eqb (cell breaks (suc i)) LF) ≡ false
       cr = rw (told .1)
@@ -193,23 +193,23 @@ module _ (breaks marks : List ℕ) (plain : Columns breaks marks) where
   -- at an extension that begins the text, or a cluster
   pub calm-start : (j : ℕ) → j < length breaks → boundaryAt breaks marks j ≡ true → member extensions (cell breaks j) ≡ true → Calm breaks marks j
   calm-start zero h b e = record {
-    joins = rw (unmarked zero h (λ x. let z : member extensions XX ≡ true = rw x at e in false-true z)) (and-false (Z breaks marks zero));
-    extends = λ p q. false-true (sym (P-start breaks marks) ∙ p);
+    joins = rw (unmarked zero h (λ x. let z : member extensions XX ≡ true = rw x at e in false≢true z)) (and-false (Z breaks marks zero));
+    extends = λ p q. false≢true (sym (P-start breaks marks) ∙ p);
     newline = λ i q. absurd (omega arith);
   }
-  calm-start (suc i) h b e = absurd (false-true (sym (extension-joins i h e) ∙ b))
+  calm-start (suc i) h b e = absurd (false≢true (sym (extension-joins i h e) ∙ b))
 
   -- after a pictograph and Extend*, at a character that is neither Extend nor ZWJ
   pub calm-stopped : (j : ℕ) → j < length breaks → P breaks marks j ≡ true → member (EX ∷ ZWJ ∷ []) (cell breaks j) ≡ false → Calm breaks marks j
-  calm-stopped zero h p n = absurd (false-true (sym (P-start breaks marks) ∙ p))
+  calm-stopped zero h p n = absurd (false≢true (sym (P-start breaks marks) ∙ p))
   calm-stopped (suc i) h p n = record {
     joins = rw (Z-next breaks marks i, told .0);
-    extends = λ q e. false-true (sym n ∙ e);
+    extends = λ q e. false≢true (sym n ∙ e);
     newline = λ k e. let q : k ≡ i = omega arith in rw (q, told .1);
   }
     where
       never : (k : ℕ) → (k ≡ XX → ⊥) → (eqb (cell marks i) 1 || false) ≡ true → (eqb (cell marks i) 1 ≡ true → k ≡ XX) → (eqb k ZWJ ≡ false) × (eqb k CR ≡ false)
-      never k n q f = by-test (eqb (cell marks i) 1) (λ e. absurd (n (f e))) (λ e. absurd (false-true (rw e at q)))
+      never k n q f = by-test (eqb (cell marks i) 1) (λ e. absurd (n (f e))) (λ e. absurd (false≢true (rw e at q)))
 
       told : (eqb (cell breaks i) ZWJ ≡ false) × (eqb (cell breaks i) CR ≡ false)
       told = kind-case (λ k. (eqb (cell marks i) 1 || (eqb k EX && P breaks marks i)) ≡ true → (eqb (cell marks i) 1 ≡ true → k ≡ XX) → (eqb k ZWJ ≡ false) × (eqb k CR ≡ false))
@@ -218,11 +218,11 @@ module _ (breaks marks : List ℕ) (plain : Columns breaks marks) where
 
   -- after a ZWJ behind these, at a character that is no pictograph
   pub calm-joined : (j : ℕ) → j < length breaks → Z breaks marks j ≡ true → eqb (cell marks j) 1 ≡ false → Calm breaks marks j
-  calm-joined zero h z m = absurd (false-true (sym (Z-start breaks marks) ∙ z))
+  calm-joined zero h z m = absurd (false≢true (sym (Z-start breaks marks) ∙ z))
   calm-joined (suc i) h z m =
-      let zwj : cell breaks i ≡ ZWJ = eqb-true _ _ (and-both _ _ (sym (Z-next breaks marks i) ∙ z) .0) in
+      let zwj : cell breaks i ≡ ZWJ = eqb-true _ _ (both _ _ (sym (Z-next breaks marks i) ∙ z) .0) in
       record {
         joins = rw m (and-false (Z breaks marks (suc i)));
-        extends = λ p q. false-true (sym (P-next breaks marks i ∙ rw (unmarked i (omega arith) (λ x. omega arith), zwj)) ∙ p);
+        extends = λ p q. false≢true (sym (P-next breaks marks i ∙ rw (unmarked i (omega arith) (λ x. omega arith), zwj)) ∙ p);
         newline = λ k e. let q : k ≡ i = omega arith in rw (q, zwj);
       }

@@ -8,6 +8,8 @@ use native.Mathlib.Omega.{arith}
 use lib.Dec.{ltb}
 use lib.ListN.{length, take}
 use borrow.Author.Tests.{ltb-true, ne-eqb}
+use Rattle.basics.specs.Sets.{every}
+use Rattle.basics.proofs.Tests.{by-test, both}
 use Rattle.classes.specs.declared.Mode.{Mode}
 use Rattle.classes.specs.declared.Mode.the-variants.{Crate, Whole}
 use Rattle.records.specs.Text.{Text}
@@ -21,7 +23,6 @@ use Rattle.parse.specs.declared.Pushed.{Pushed}
 use Rattle.parse.specs.declared.Cluster.{Cluster}
 use Rattle.parse.specs.State.{tokenAt, placeOf, clusterOf}
 use Rattle.parse.specs.Cover.{Covers, pushed}
-use Rattle.parse.proofs.Loop.{by-test}
 use Rattle.parse.proofs.Covered.{cover-count}
 use Rattle.segment.specs.Calls.{called}
 use Rattle.segment.specs.Runs.{callsFrom, columnOf, clusterIn, RanOf}
@@ -33,8 +34,7 @@ use Rattle.segment.proofs.Coverage.{accepted-short}
 use Rattle.segment.proofs.Repeats.{call-once}
 use Rattle.segment.proofs.Demands.{run-writes}
 use Rattle.uax29.specs.Clusters.{boundaryAt}
-use Rattle.plain.specs.Clusters.{plainAt, every, allShort, isPlain, simpleCalls, numberAt, numbersOf}
-use Rattle.plain.proofs.Tests.{and-both}
+use Rattle.plain.specs.Clusters.{plainAt, allShort, isPlain, simpleCalls, numberAt, numbersOf}
 use Rattle.plain.proofs.ClustersNeighbours.{Columns}
 use Rattle.plain.proofs.ClustersAfter.{Joined}
 use Rattle.plain.proofs.ClustersCall.{Shows}
@@ -94,7 +94,7 @@ module _ (mode : Mode) (stream breaks marks : List ℕ) (short : length stream �
       let to : ℕ = placeOf stream p in
       let i : at < length stream = ltb-true at (length stream) q in
       let more = calls-more mode stream n at q in
-      let less = and-both (ltb (p .len) 32) _ (subst (λ ps. allShort ps ≡ true) more e) in
+      let less = both (ltb (p .len) 32) _ (subst (λ ps. allShort ps ≡ true) more e) in
       let small : p .len < 32 = ltb-true (p .len) 32 (less .0) in
       let ends = call-plain mode stream breaks marks short shows plain at i (s i .0) small in
       let passes : at < to = progress Simple mode stream short at i in
@@ -117,7 +117,7 @@ numbers-plain mode t accepted plain =
     let stream : List ℕ = streamOf mode Simple t in
     let breaks : List ℕ = t .records .breaks in
     let marks : List ℕ = t .records .semojis in
-    let told = and-both (every (plainAt breaks marks) (length breaks)) _ plain in
+    let told = both (every (plainAt breaks marks) (length breaks)) _ plain in
     let size : length stream ≡ length breaks = stream-length mode t accepted in
     numbers-are mode stream breaks marks (accepted-short mode Simple t accepted) (stream-shows mode t accepted) (plain-columns breaks marks (told .0))
     (λ i h. stream-index mode t accepted i (omega arith)) (length stream) 0 0 (λ h. (starts-at-0 breaks marks (omega arith), refl)) (told .1)

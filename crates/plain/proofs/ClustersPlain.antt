@@ -2,17 +2,20 @@
 -- Assumes nothing.
 use Prim.Native.Nat.{ℕ, zero, suc, _+_, _-_, _<_, _≤_}
 use mathlib.Core.Path.{_≡_, refl, sym, _∙_, ap, subst}
-use mathlib.Core.Bool.{Bool, true, false, cond, not, _&&_, _||_}
+use mathlib.Core.Bool.{Bool, true, false, cond, not, _&&_, _||_, false≢true}
 use mathlib.Core.List.{List, [], _∷_}
 use native.Mathlib.Numerals.{add-one}
 use native.Mathlib.Omega.{arith}
 use lib.Dec.{eqb, ltb}
 use lib.ListN.{length, drop, getD}
 use borrow.Author.Tests.{eqb-true, ltb-true, ltb-false, le-ltb}
+use Rattle.basics.proofs.Sets.{every-at}
+use Rattle.basics.proofs.Tests.{by-test, both}
+use Rattle.basics.specs.Sets.{member, every}
 use Rattle.classes.specs.ClusterBreak.{XX}
 use Rattle.classes.specs.declared.Mode.{Mode}
 use Rattle.records.specs.Text.{Text, cell, recordLengths}
-use Rattle.records.specs.Refusals.{member, uneven, verdict}
+use Rattle.records.specs.Refusals.{uneven, verdict}
 use Rattle.records.specs.Refusals as Refusals
 use Rattle.records.specs.Sound.{Sound}
 use Rattle.records.specs.declared.Parser.the-variants.{Simple}
@@ -25,7 +28,6 @@ use Rattle.stream.proofs.Accepted.{simple-says}
 use Rattle.stream.proofs.Stream.{length-records}
 use Rattle.parse.specs.declared.Parse.{Parse}
 use Rattle.parse.specs.State.{tokenAt, placeOf}
-use Rattle.parse.proofs.Loop.{false-true, by-test}
 use Rattle.simple.specs.Grammar.{isExtension}
 use Rattle.segment.specs.Calls.{grammar, called}
 use Rattle.segment.specs.Runs.{callsFrom}
@@ -34,8 +36,7 @@ use Rattle.segment.proofs.CallTurns.{call-within}
 use Rattle.segment.proofs.Coverage.{accepted-short}
 use Rattle.uax29.specs.Clusters.{controls, applies, decide, edge, any, GB1, beforeOf, boundaryAt, placesFrom, boundaries}
 use Rattle.uax29.proofs.ClustersSides.{some-after}
-use Rattle.plain.specs.Clusters.{plainKinds, extensions, plainMark, plainPair, plainAt, every, allShort, isPlain, startsFrom, clusterStarts}
-use Rattle.plain.proofs.Tests.{and-both, every-at}
+use Rattle.plain.specs.Clusters.{plainKinds, extensions, plainMark, plainPair, plainAt, allShort, isPlain, startsFrom, clusterStarts}
 use Rattle.plain.proofs.ClustersNeighbours.{Columns, Calm, calm-parts}
 use Rattle.plain.proofs.ClustersAfter.{Joined, After, full, over, halted, goes}
 use Rattle.plain.proofs.ClustersCall.{Shows, Nowhere, extension-is, call-after}
@@ -52,13 +53,13 @@ record-token s (suc n) i (suc k) h =
     record-token s n (i + 1) k (omega arith) ∙ ap (λ j. ownToken s (cell (s .emojis) j) j) e
 
 second-false : (a b c : Bool) → (a || (b || c)) ≡ false → b ≡ false
-second-false true b c e = absurd (false-true (sym e))
-second-false false true c e = absurd (false-true (sym e))
+second-false true b c e = absurd (false≢true (sym e))
+second-false false true c e = absurd (false≢true (sym e))
 second-false false false c e = refl
 
 not-false : (b : Bool) → not b ≡ false → b ≡ true
 not-false true e = refl
-not-false false e = absurd (false-true (sym e))
+not-false false e = absurd (false≢true (sym e))
 
 second-even : (x y : ℕ) (ns : List ℕ) → uneven (x ∷ y ∷ ns) ≡ false → y ≡ x
 second-even x y ns e = eqb-true y x (not-false (eqb y x) (second-false (not (eqb x x)) (not (eqb y x)) (Refusals.any (λ n. not (eqb n x)) ns) e))
@@ -105,13 +106,13 @@ marked-plain kind mark e m = let q : mark ≡ 1 = eqb-true mark 1 m in eqb-true 
 
 pair-plain : (a b : Bool) → not (a && b) ≡ true → b ≡ true → a ≡ false
 pair-plain false b e h = refl
-pair-plain true b e h = absurd (false-true (rw h at e))
+pair-plain true b e h = absurd (false≢true (rw h at e))
 
 plain-at : (breaks marks : List ℕ) (i : ℕ) → plainAt breaks marks i ≡ true → (member plainKinds (cell breaks i) ≡ true) × (plainMark (cell breaks i) (cell marks i) ≡ true) × (plainPair (cell breaks i) (cell breaks (i + 1)) ≡ true)
 unfolding plainAt
 plain-at breaks marks i e =
-    let first = and-both (member plainKinds (cell breaks i)) (plainMark (cell breaks i) (cell marks i) && plainPair (cell breaks i) (cell breaks (i + 1))) e in
-    let second = and-both (plainMark (cell breaks i) (cell marks i)) (plainPair (cell breaks i) (cell breaks (i + 1))) (first .1) in
+    let first = both (member plainKinds (cell breaks i)) (plainMark (cell breaks i) (cell marks i) && plainPair (cell breaks i) (cell breaks (i + 1))) e in
+    let second = both (plainMark (cell breaks i) (cell marks i)) (plainPair (cell breaks i) (cell breaks (i + 1))) (first .1) in
     (first .0, second .0, second .1)
 
 pub plain-columns : (breaks marks : List ℕ) → every (plainAt breaks marks) (length breaks) ≡ true → Columns breaks marks
@@ -215,7 +216,7 @@ module _ (mode : Mode) (stream breaks marks : List ℕ) (short : length stream �
       (λ q. let p : Parse = called Simple mode stream at in
       let i : at < length stream = ltb-true at (length stream) q in
       let more = calls-more mode stream n at q in
-      let less = and-both (ltb (p .len) 32) _ (subst (λ ps. allShort ps ≡ true) more e) in
+      let less = both (ltb (p .len) 32) _ (subst (λ ps. allShort ps ≡ true) more e) in
       let ends = call-plain mode stream breaks marks short shows plain at i (s i) (ltb-true (p .len) 32 (less .0)) in
       let passes : at < placeOf stream p = progress Simple mode stream short at i in
       let within : placeOf stream p ≤ length stream = call-within Simple mode stream short at i in
@@ -232,7 +233,7 @@ clusters-plain mode t accepted plain =
     let stream : List ℕ = streamOf mode Simple t in
     let breaks : List ℕ = t .records .breaks in
     let marks : List ℕ = t .records .semojis in
-    let told = and-both (every (plainAt breaks marks) (length breaks)) _ plain in
+    let told = both (every (plainAt breaks marks) (length breaks)) _ plain in
     let size : length stream ≡ length breaks = stream-length mode t accepted in
     let all : length stream - 0 ≡ length breaks = omega arith in
     starts-are mode stream breaks marks (accepted-short mode Simple t accepted) (stream-shows mode t accepted) (plain-columns breaks marks (told .0))

@@ -2,7 +2,7 @@
 -- Assumes nothing.
 use Prim.Native.Nat.{ℕ, zero, suc, _+_, _<_, _≤_}
 use mathlib.Core.Path.{_≡_, sym, _∙_, subst}
-use mathlib.Core.Bool.{true}
+use mathlib.Core.Bool.{true, false≢true}
 use mathlib.Core.List.{List}
 use mathlib.Core.Logic.{⊎-elim}
 use native.Mathlib.Nat.{eq-or-lt-of-le}
@@ -10,6 +10,8 @@ use native.Mathlib.Omega.{arith}
 use lib.Dec.{ltb}
 use lib.ListN.{length}
 use borrow.Author.Tests.{ltb-true, ltb-false, lt-ltb}
+use Rattle.basics.specs.Sets.{every}
+use Rattle.basics.proofs.Tests.{by-test, both}
 use Rattle.classes.specs.declared.Mode.{Mode}
 use Rattle.records.specs.Text.{Text}
 use Rattle.records.specs.Refusals.{verdict}
@@ -18,7 +20,6 @@ use Rattle.records.specs.declared.Verdict.the-variants.{Accepted}
 use Rattle.stream.specs.Stream.{streamOf}
 use Rattle.parse.specs.declared.Parse.{Parse}
 use Rattle.parse.specs.State.{placeOf}
-use Rattle.parse.proofs.Loop.{false-true, by-test}
 use Rattle.segment.specs.Calls.{called, found, nextOf}
 use Rattle.segment.specs.Runs.{callsFrom}
 use Rattle.segment.specs.declared.Answer.{Answer}
@@ -26,8 +27,7 @@ use Rattle.segment.proofs.Progress.{progress}
 use Rattle.segment.proofs.Coverage.{next-case, accepted-short}
 use Rattle.segment.proofs.Demands.{at}
 use Rattle.uax29.specs.Clusters.{boundaryAt}
-use Rattle.plain.specs.Clusters.{plainAt, every, allShort, isPlain}
-use Rattle.plain.proofs.Tests.{and-both}
+use Rattle.plain.specs.Clusters.{plainAt, allShort, isPlain}
 use Rattle.plain.proofs.ClustersNeighbours.{Columns}
 use Rattle.plain.proofs.ClustersAfter.{Joined}
 use Rattle.plain.proofs.ClustersCall.{Shows}
@@ -41,14 +41,14 @@ module _ (mode : Mode) (stream breaks marks : List ℕ) (short : length stream �
   reached (suc n) from h l s e =
       let p : Parse = called Simple mode stream from in
       let i : from < length stream = omega arith in
-      let less = and-both (ltb (p .len) 32) _ (subst (λ ps. allShort ps ≡ true) (calls-more mode stream n from (lt-ltb from (length stream) i)) e) in
+      let less = both (ltb (p .len) 32) _ (subst (λ ps. allShort ps ≡ true) (calls-more mode stream n from (lt-ltb from (length stream) i)) e) in
       let small : p .len < 32 = ltb-true (p .len) 32 (less .0) in
       let ends = call-plain mode stream breaks marks short shows plain from i s small in
       let passes : from < placeOf stream p = progress Simple mode stream short from i in
       ⊎-elim
       (λ (q : from ≡ place). subst (λ j. (called Simple mode stream j) .len < 32) q small)
       (λ (q : from < place). by-test (ltb place (placeOf stream p))
-      (λ k. absurd (false-true (sym (ends .0 place q (ltb-true _ _ k)) ∙ here)))
+      (λ k. absurd (false≢true (sym (ends .0 place q (ltb-true _ _ k)) ∙ here)))
       (λ k. let j : placeOf stream p ≤ place = ltb-false place (placeOf stream p) k in
       reached n (placeOf stream p) (omega arith) j (ends .1 (omega arith)) (less .1)))
       (eq-or-lt-of-le l)
@@ -70,7 +70,7 @@ module _ (mode : Mode) (t : Text) (accepted : verdict Simple t ≡ Accepted) (pl
   leads : Leads breaks marks place (placeOf stream (called Simple mode stream place))
   unfolding isPlain
   leads =
-      let told = and-both (every (plainAt breaks marks) (length breaks)) _ plain in
+      let told = both (every (plainAt breaks marks) (length breaks)) _ plain in
       let size : length stream ≡ length breaks = stream-length mode t accepted in
       let short : length stream ≤ 65535 = accepted-short mode Simple t accepted in
       let shows : Shows stream breaks marks = stream-shows mode t accepted in

@@ -4,6 +4,7 @@
 use mathlib.Core.Path.{_≡_, refl}
 use mathlib.Core.Bool.{true}
 use lib.ListN.{length, replicate}
+use Rattle.basics.specs.Sets.{every}
 use Rattle.records.specs.Refusals.{verdict, wordVerdict, judgeWord, judgeLengths, judgeParts, judgeRecords, judgeSigns, judgeRecord, judgePart, judgeSign, over, badScalar, badRun, barred, badSign, isSplit}
 use Rattle.stream.specs.Stream.{streamOf, gather, itself}
 use Rattle.parse.specs.State.{stepOf, pushOf, noteOf, loop, atMost}
@@ -18,7 +19,7 @@ use Rattle.words.specs.Run.{nextAt, stateAt, answerAt, answers}
 use Rattle.uax29.specs.Words.{WB1, WB2, WB3, WB3a, WB3b, WB3c, WB3d, WB4, WB5, WB6, WB7, WB7a, WB7b, WB7c, WB8, WB9, WB10, WB11, WB12, WB13, WB13a, WB13b, WB15, WB16, WB999, kept, passed}
 use Rattle.uax29.specs.Words as Words
 use Rattle.plain.specs.Words.{plainWordAt, isPlainWords}
-use Rattle.plain.specs.Clusters.{plainMark, plainPair, plainAt, every, allShort, isPlain, startsFrom}
+use Rattle.plain.specs.Clusters.{plainMark, plainPair, plainAt, allShort, isPlain, startsFrom}
 use Rattle.plain.specs.Differences.{differences, plains, alikes, standing, allGiven, allTold}
 
 -- with their numbers, so that no row goes unnoticed

@@ -1,4 +1,3 @@
-pub mod Tests
 pub mod ClustersNeighbours
 pub mod ClustersAfter
 pub mod ClustersCall

@@ -10,9 +10,11 @@ use native.Mathlib.Numerals.{add-one}
 use lib.Dec.{eqb, ltb}
 use lib.ListN.{length, drop, List·getD-eq-default}
 use borrow.Author.Tests.{ltb-false, ltb-true, not-true}
+use Rattle.basics.proofs.Sets.{every-at}
+use Rattle.basics.proofs.Tests.{both}
+use Rattle.basics.specs.Sets.{member}
 use Rattle.classes.specs.WordBreak.{HL, NU, RI}
 use Rattle.records.specs.Text.{cell}
-use Rattle.records.specs.Refusals.{member}
 use Rattle.records.specs.declared.Verdict.the-variants.{Accepted}
 use Rattle.words.specs.declared.WordStep.{WordStep}
 use Rattle.words.specs.declared.Next.the-variants.{Class, End}
@@ -24,7 +26,6 @@ use Rattle.uax29.specs.WordsSeen.{decided, fromWB1, after, seenAt, ahead}
 use Rattle.uax29.proofs.WordsWalk.{ahead-here, ahead-none, boundary-is}
 use Rattle.plain.specs.Words.{plainWordAt, isPlainWords}
 use Rattle.plain.proofs.WordsStep.{Looks, held, countOf, machine, seenPast, told-same, step-right}
-use Rattle.plain.proofs.Tests.{and-both, every-at}
 
 -- the look-ahead
 looks-under : (words : List ℕ) (i : ℕ) (there : Bool) → ltb i (length words) ≡ there → Looks (cond there (Class (cell words i)) End) (cell words i)
@@ -45,7 +46,7 @@ module _ (words pictographs : List ℕ) (plain : isPlainWords words ≡ true) wh
   plain-at : (i : ℕ) → i < length words → (member ignored (cell words i) ≡ false) × ((member newlines (cell words i) && eqb (cell words (i + 1)) RI) ≡ false)
   unfolding isPlainWords plainWordAt
   plain-at i l =
-      let k = and-both (not (member ignored (cell words i))) (not (member newlines (cell words i) && eqb (cell words (i + 1)) RI)) (every-at (plainWordAt words) (length words) i plain l) in
+      let k = both (not (member ignored (cell words i))) (not (member newlines (cell words i) && eqb (cell words (i + 1)) RI)) (every-at (plainWordAt words) (length words) i plain l) in
       (not-true _ (k .0), not-true _ (k .1))
 
   -- WB4 passes over nothing

@@ -5,10 +5,10 @@ use mathlib.Core.Bool.{Bool, true, cond, not, _&&_, _||_}
 use mathlib.Core.List.{List, [], _∷_, _++_, map}
 use lib.Dec.{eqb, ltb}
 use lib.ListN.{length}
+use Rattle.basics.specs.Sets.{member}
 use Rattle.classes.specs.ClusterBreak.{XX, CN, CR, LF, EX, SM, ZWJ}
 use Rattle.classes.specs.declared.Mode.{Mode}
 use Rattle.records.specs.Text.{Text, cell}
-use Rattle.records.specs.Refusals.{member}
 use Rattle.records.specs.declared.Parser.the-variants.{Simple}
 use Rattle.stream.specs.Stream.{streamOf}
 use Rattle.parse.specs.declared.Parse.{Parse}
@@ -35,11 +35,6 @@ plainPair kind next = not (member controls kind && member extensions next)
 -- the record at an index; the cell after the last one is read as 0, which is XX
 unfoldable pub plainAt : List ℕ → List ℕ → ℕ → Bool
 plainAt breaks marks i = member plainKinds (cell breaks i) && (plainMark (cell breaks i) (cell marks i) && plainPair (cell breaks i) (cell breaks (i + 1)))
-
--- of all numbers below n
-unfoldable pub every : (ℕ → Bool) → ℕ → Bool
-every p zero = true
-every p (suc n) = p n && every p n
 
 -- "no cluster of 32"
 unfoldable pub allShort : List Parse → Bool

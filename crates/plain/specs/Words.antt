@@ -4,11 +4,10 @@ use mathlib.Core.Bool.{Bool, not, _&&_}
 use mathlib.Core.List.{List}
 use lib.Dec.{eqb}
 use lib.ListN.{length}
+use Rattle.basics.specs.Sets.{member, every}
 use Rattle.classes.specs.WordBreak.{RI}
 use Rattle.records.specs.Text.{cell}
-use Rattle.records.specs.Refusals.{member}
 use Rattle.uax29.specs.Words.{newlines, ignored}
-use Rattle.plain.specs.Clusters.{every}
 
 -- the record at an index; the cell after the last one is read as 0, which is Other
 unfoldable pub plainWordAt : List ℕ → ℕ → Bool

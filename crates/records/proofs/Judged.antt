@@ -7,6 +7,7 @@ use mathlib.Core.List.{List, [], _∷_}
 use mathlib.Core.Logic.{_⊎_, inl, inr, ⊎-elim}
 use native.Mathlib.Omega.{arith}
 use lib.ListN.{length}
+use Rattle.basics.proofs.Tests.{both, either}
 use Rattle.records.specs.Text.{Text, cell, rowOf, partOf, recordLengths, partLengths}
 use Rattle.records.specs.declared.Row.{Row}
 use Rattle.records.specs.declared.PartRow.{PartRow}
@@ -18,7 +19,7 @@ use Rattle.records.specs.declared.Verdict.{Verdict}
 use Rattle.records.specs.declared.Verdict.the-variants.{Accepted, Refused}
 use Rattle.records.specs.Refusals.{isComplex, isKhmer, refuse, _⊳_, over, tooLong, uneven, badScalar, outside, partCodes, recordClasses, recordMarks, badRun, barred, judgePart, judgeRecord, judgeSign, judgeSignAt, judgeParts, judgeRecords, judgeSigns, judgeLengths, verdict, judgeWord, wordVerdict}
 use Rattle.records.specs.Offences.{Line, breaks, Offends, Judges, ByTable, Asks, partLines, recordLines, lengthLines, badSignAt, someFrom, signLine, tableOf, wordLines, wordTableOf}
-use Rattle.records.proofs.Tables.{both, either, fits, inOrder, broken-fits, firstLine, firstOf, Ordered, by-table}
+use Rattle.records.proofs.Tables.{fits, inOrder, broken-fits, firstLine, firstOf, Ordered, by-table}
 
 -- # Verdicts one after the other
 

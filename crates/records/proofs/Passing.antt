@@ -13,13 +13,14 @@ use borrow.Author.Tests.{ltb-true, ltb-false}
 use lib.Bits.{bitOr, or-add-and, and-le-l, and-le-r}
 use lib.ListN.{length, getD, List·getD-eq-default}
 use denote.Ref.{RefT}
+use Rattle.basics.specs.Sets.{member}
 use Rattle.classes.specs.Scalar.{CGJ}
 use Rattle.records.specs.Text.{Text, cell, column, rowOf, partOf, textIn}
 use Rattle.records.specs.declared.Parser.{Parser}
 use Rattle.records.specs.declared.Parser.the-variants.{Simple, Myanmar, Complex, Khmer}
 use Rattle.records.specs.declared.Verdict.{Verdict}
 use Rattle.records.specs.declared.Verdict.the-variants.{Accepted}
-use Rattle.records.specs.Refusals.{badScalar, barred, isComplex, member, barredClasses, judgeParts, judgeRecords, judgeSigns}
+use Rattle.records.specs.Refusals.{badScalar, barred, isComplex, barredClasses, judgeParts, judgeRecords, judgeSigns}
 use Rattle.records.specs.Sound.{SoundPart, SoundRow}
 use Rattle.records.specs.Sweep.{AtMost, CleanScalar, CleanScalars, EndsBy, limits, Below, Passes, eachVerdict}
 use Rattle.records.proofs.Accepted.{parts-pass, rows-pass}

@@ -9,22 +9,14 @@ use native.Mathlib.Nat.{eq-or-lt-of-le}
 use native.Mathlib.Omega.{arith}
 use lib.Dec.{eqb, leb, ltb}
 use borrow.Author.Tests.{eqb-true, eq-eqb, leb-true, ltb-true, ltb-false, lt-ltb, le-ltb}
+use Rattle.basics.proofs.Tests.{both, either}
+use Rattle.basics.specs.Sets.{member}
 use Rattle.records.specs.declared.Side.{Side}
 use Rattle.records.specs.declared.Side.the-variants.{Record, Part, Neither}
 use Rattle.records.specs.declared.Verdict.{Verdict}
 use Rattle.records.specs.declared.Verdict.the-variants.{Accepted, Refused}
-use Rattle.records.specs.Refusals.{refuse, _⊳_, over, member}
+use Rattle.records.specs.Refusals.{refuse, _⊳_, over}
 use Rattle.records.specs.Offences.{Line, breaks, Table, Offends, stage, Earlier, Judges, sideNumbers, Carries, ByTable}
-
--- # Tests
-
-pub both : (a b : Bool) → (a && b) ≡ true → (a ≡ true) × (b ≡ true)
-both true b e = (refl, e)
-both false b e = absurd (false≢true e)
-
-pub either : (a b : Bool) → (a || b) ≡ true → (a ≡ true) ⊎ (b ≡ true)
-either true b e = inl refl
-either false b e = inr e
 
 -- # Lines in order
 

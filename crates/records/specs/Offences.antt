@@ -8,8 +8,9 @@ use mathlib.Core.List.{List, [], _∷_, _++_}
 use mathlib.Core.Logic.{_⊎_}
 use lib.Dec.{eqb, ltb}
 use lib.ListN.{length}
+use Rattle.basics.specs.Sets.{member}
 use Rattle.records.specs.Text.{Text, cell, rowOf, partOf, recordLengths, partLengths}
-use Rattle.records.specs.Refusals.{isKhmer, member, tooLong, uneven, badScalar, outside, partCodes, recordClasses, recordMarks, badRun, barred, badSign, coded, mark}
+use Rattle.records.specs.Refusals.{isKhmer, tooLong, uneven, badScalar, outside, partCodes, recordClasses, recordMarks, badRun, barred, badSign, coded, mark}
 use Rattle.records.specs.Numbers.{numberOf}
 use Rattle.records.specs.declared.Row.{Row}
 use Rattle.records.specs.declared.PartRow.{PartRow}

@@ -2,10 +2,11 @@
 -- Assumes nothing.
 use Prim.Native.Nat.{ℕ, _<_}
 use mathlib.Core.Path.{_≡_, refl, sym, _∙_, ap, subst}
-use mathlib.Core.Bool.{Bool, true, false, cond}
+use mathlib.Core.Bool.{Bool, true, false, cond, false≢true}
 use mathlib.Core.List.{List}
 use native.Mathlib.Omega.{arith}
 use lib.ListN.{length}
+use Rattle.basics.proofs.Tests.{if-intro, by-test, both-of}
 use Rattle.classes.specs.declared.Shape.{Shape}
 use Rattle.classes.specs.declared.Shape.the-variants.{Other}
 use Rattle.classes.specs.declared.Mode.the-variants.{Whole}
@@ -14,7 +15,7 @@ use Rattle.parse.specs.declared.Info.{Info}
 use Rattle.parse.specs.declared.Flow.the-variants.{GoOn, Stop}
 use Rattle.parse.specs.State.{tokenAt, going, withFlow, withInfo, withAgain, turns, putOf, notedOf, movedOf, onJoiner, hop, stepOf, pushOf, noteOf, goOn, passesEnd, resumedOf, retriedOf}
 use Rattle.parse.specs.Rule.{Test, Rule, skip, stop, push, note, mark, seq, choose, while, part, thrice, run, holds, take, thriceOf}
-use Rattle.parse.proofs.Loop.{false-true, if-intro, by-test, both, loop-keeps}
+use Rattle.parse.proofs.Loop.{loop-keeps}
 use Rattle.parse.proofs.Moves.{moved-case, put-same, noted-same}
 use Rattle.parse.proofs.Keeps.{thrice-mode}
 use Rattle.parse.proofs.Steps.{going-flow}
@@ -227,11 +228,11 @@ calm-free text ask s stop h = tt
 calm-free text ask s (push f) h = tt
 calm-free text ask s note h = tt
 calm-free text ask s (mark f) h = tt
-calm-free text ask s (seq a b) h = let z = both (free a) (free b) h in (calm-free text ask s a (z .0), calm-free text ask s b (z .1))
-calm-free text ask s (choose p a b) h = let z = both (free a) (free b) h in ((λ e. calm-free text ask s a (z .0)), (λ e. calm-free text ask s b (z .1)))
+calm-free text ask s (seq a b) h = let z = both-of (free a) (free b) h in (calm-free text ask s a (z .0), calm-free text ask s b (z .1))
+calm-free text ask s (choose p a b) h = let z = both-of (free a) (free b) h in ((λ e. calm-free text ask s a (z .0)), (λ e. calm-free text ask s b (z .1)))
 calm-free text ask s (while p a) h = calm-free text ask s a h
 calm-free text ask s (part a) h = calm-free text ask s a h
-calm-free text ask s (thrice c) h = absurd (false-true h)
+calm-free text ask s (thrice c) h = absurd (false≢true h)
 
 -- in whole mode every rule is calm
 pub calm-whole : (text : List ℕ) (ask : Test → Bool) (s : Parse) (r : Rule) → s .mode ≡ Whole → Calm text ask s r
@@ -252,7 +253,7 @@ calm-whole text ask s (thrice c) w = λ m. retried-whole (thriceOf text c (marke
 
 run-thrice : (c : Shape) (text : List ℕ) (s : Parse) → going s ≡ true → run (thrice c) text s ≡ retriedOf (thriceOf text c s)
 unfolding run
-run-thrice c text s g = if-intro (λ q. q ≡ retriedOf (thriceOf text c s)) (going s) _ _ (λ h. refl) (λ h. absurd (false-true (sym h ∙ g)))
+run-thrice c text s g = if-intro (λ q. q ≡ retriedOf (thriceOf text c s)) (going s) _ _ (λ h. refl) (λ h. absurd (false≢true (sym h ∙ g)))
 
 thrice-takes : (c : Shape) (text : List ℕ) (s : Parse) → going s ≡ true → thriceOf text c s ≡ run (seq (take c) (take c)) text (pushOf text c s)
 unfolding run thriceOf

@@ -2,12 +2,13 @@
 -- the cluster without the repeat is exactly the tokens that the call passed. Assumes nothing.
 use Prim.Native.Nat.{ℕ, _-_, _<_, _≤_}
 use mathlib.Core.Path.{_≡_, refl, sym, _∙_, ap}
-use mathlib.Core.Bool.{Bool, true, false, cond}
+use mathlib.Core.Bool.{Bool, true, false, cond, false≢true}
 use mathlib.Core.List.{List}
 use native.Mathlib.Omega.{arith}
 use lib.Dec.{eqb}
 use lib.ListN.{length, getD}
 use borrow.Author.Tests.{eqb-true, eqb-false}
+use Rattle.basics.proofs.Tests.{if-intro, by-test}
 use Rattle.classes.specs.declared.Mode.{Mode}
 use Rattle.classes.specs.declared.Mode.the-variants.{Crate, Whole}
 use Rattle.records.specs.declared.Parser.{Parser}
@@ -17,7 +18,6 @@ use Rattle.parse.specs.State.{tokenAt, begin, placeOf, clusterOf, nothing}
 use Rattle.parse.specs.declared.Flow.{Flow}
 use Rattle.parse.specs.declared.Flow.the-variants.{GoOn, Stop, Full, End}
 use Rattle.parse.specs.Cover.{Covers, pushed, Repeating, repeatsOf, repeats}
-use Rattle.parse.proofs.Loop.{false-true, if-intro, by-test}
 use Rattle.parse.proofs.Keeps.{run-mode}
 use Rattle.parse.proofs.Free.{run-again}
 use Rattle.parse.proofs.Agree.{notFull, fine}
@@ -47,10 +47,10 @@ called-mode parser mode stream at = run-mode (grammar parser) stream (begin (rec
 -- and then its last character is the repeat, with no note behind it
 call-bare : (parser : Parser) (stream : List ℕ) (at : ℕ) → at < length stream → repeatB parser stream at ≡ true → (repeats (called parser Crate stream at) ≡ 1) × ((getD ((called parser Crate stream at) .chars) ((called parser Crate stream at) .len - 1) nothing) .noted ≡ 0)
 unfolding called grammar
-call-bare Simple stream at inside b = absurd (false-true b)
+call-bare Simple stream at inside b = absurd (false≢true b)
 call-bare Myanmar stream at inside b = again-repeats stream at Crate inside (again-is stream at Crate ∙ b)
-call-bare Complex stream at inside b = absurd (false-true b)
-call-bare Khmer stream at inside b = absurd (false-true b)
+call-bare Complex stream at inside b = absurd (false≢true b)
+call-bare Khmer stream at inside b = absurd (false≢true b)
 
 module _ (parser : Parser) (stream : List ℕ) (short : length stream ≤ 65535) (at : ℕ) (inside : at < length stream) where
   abbrev inMode : Mode → Parse

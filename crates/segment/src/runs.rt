@@ -9,6 +9,7 @@ use crate::streams::SHORT;
 use crate::streams::count_of;
 use crate::streams::tokens_of;
 use crate::tabled::tabled;
+use basics::shorter;
 use classes::Mode;
 use parse::Parse;
 use records::Parser;
@@ -16,7 +17,7 @@ use records::Side;
 use records::Verdict;
 use records::cells::record_count;
 ghost use mathlib.Core.Path.{_≡_};
-ghost use Prim.Native.Nat.{_≤_, min};
+ghost use Prim.Native.Nat.{_≤_};
 ghost use lib.ListN.{length};
 ghost use Rattle.records.specs.Text.{lent};
 ghost use Rattle.records.specs.Sound.{Sound};
@@ -24,12 +25,6 @@ ghost use Rattle.records.specs.declared.Verdict.the-variants.{Accepted, Refused
 ghost use Rattle.stream.specs.Stream.{streamOf};
 ghost use Rattle.segment.specs.Runs.{Fits};
 ghost use Rattle.segment.specs.Standing.{Written, Known, RoomyIn, Begun, Stands, Finished, Rests, FinishedIn, RanIn};
-
-fn shorter(a: usize, b: usize) -> usize
-    ensures { λ r. ⌜ r ≡ min a b ⌝ }
-{
-    if a < b { a } else { b }
-}
 
 impl RunAnswer {
     pub(crate) fn refused(number: u8, side: Side, index: usize) -> RunAnswer

@@ -10,12 +10,13 @@ use native.Mathlib.Omega.{arith}
 use lib.Dec.{eqb, leb, ltb}
 use lib.ListN.{length, drop, length-append}
 use borrow.Author.Tests.{eqb-true, ltb-false}
+use Rattle.basics.specs.Sets.{any, member}
 use Rattle.classes.specs.Scalar.{khmerSigns}
 use Rattle.classes.specs.declared.Mode.{Mode}
 use Rattle.token.specs.Token.{packed}
 use Rattle.token.proofs.Fields.{Says, packed-says}
 use Rattle.records.specs.Text.{Records, Parts, Text, cell, rowOf, recordLengths}
-use Rattle.records.specs.Refusals.{any, badScalar, most, tooLong, member}
+use Rattle.records.specs.Refusals.{badScalar, most, tooLong}
 use Rattle.records.specs.Sound.{Sound}
 use Rattle.records.specs.declared.Parser.{Parser}
 use Rattle.records.specs.declared.Parser.the-variants.{Simple, Myanmar, Complex, Khmer}

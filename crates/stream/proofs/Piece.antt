@@ -9,9 +9,9 @@ use native.Mathlib.Numerals.{add-one}
 use lib.Dec.{eqb}
 use lib.ListN.{length, getD}
 use borrow.Author.Tests.{eq-eqb, ne-eqb}
+use Rattle.basics.specs.Sets.{member}
 use Rattle.classes.specs.Scalar.{khmerSigns}
 use Rattle.records.specs.Text.{Parts, cell}
-use Rattle.records.specs.Refusals.{member}
 use Rattle.stream.specs.Stream.{Source, Splits, ownToken, partToken, partTokens, itself, split, pieceCount}
 
 pub index-twice : (i : ℕ) → i % 4096 % 4096 ≡ i % 4096

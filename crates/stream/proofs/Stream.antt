@@ -3,8 +3,9 @@
 use Prim.Native.Nat.{ℕ, zero, suc, _+_, _-_, _<_, _≤_, min}
 use mathlib.Core.Path.{_≡_, refl, sym, _∙_, ap, subst}
 use mathlib.Core.Bool.{Bool, true, false, cond, _&&_}
+use Rattle.basics.proofs.Tests.{by-test}
+use Rattle.basics.specs.Sets.{member}
 use Rattle.classes.specs.Scalar.{khmerSigns}
-use Rattle.records.specs.Refusals.{member}
 use mathlib.Core.List.{List, [], _∷_, _++_, append-assoc, append-nil}
 use native.Mathlib.Omega.{arith}
 use native.Mathlib.Nat.{sub-zero, le-of-eq}
@@ -17,10 +18,6 @@ use Rattle.records.specs.Text.{Text, Parts, cell}
 use Rattle.records.proofs.Passing.{not-so}
 use Rattle.stream.specs.Stream.{Source, Splits, sourceOf, ownToken, itself, split, splitIn, gather, givesNone, fetchIn, pieceCount, countFrom, Whole, Fills}
 use Rattle.stream.proofs.Piece.{length-split}
-
-by-test : {A : Type 0} (b : Bool) → (b ≡ true → A) → (b ≡ false → A) → A
-by-test true f g = f refl
-by-test false f g = g refl
 
 -- the cells from j on hold what they held when they were lent
 unfoldable pub Kept : ℕ → List ℕ → List ℕ → Type 0

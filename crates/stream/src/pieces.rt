@@ -8,9 +8,9 @@ ghost use mathlib.Core.Path.{_≡_};
 ghost use mathlib.Core.Bool.{true, _&&_};
 ghost use mathlib.Core.List.{[]};
 ghost use Prim.Native.Nat.{_<_};
+ghost use Rattle.basics.specs.Sets.{member};
 ghost use Rattle.classes.specs.Scalar.{khmerSigns};
 ghost use Rattle.records.specs.Text.{lent};
-ghost use Rattle.records.specs.Refusals.{member};
 ghost use Rattle.stream.specs.Stream.{sourceOf, ownToken, partToken, pieceCount, piecesIn, givesNone, Whole, Piece};
 
 // Whether a scalar is one of the five signs that Khmer splits.

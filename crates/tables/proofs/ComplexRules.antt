@@ -6,10 +6,11 @@ use mathlib.Core.Bool.{Bool, true, false, cond}
 use mathlib.Core.List.{List, [], _∷_, map}
 use lib.Dec.{eqb, ltb}
 use lib.ListN.{getD}
+use Rattle.basics.specs.Sets.{member}
 use Rattle.classes.specs.declared.Shape.the-variants.{Base, Mark, Control, Halant, VPre, VMPre, Vs, Zwnj, Zwj, Other}
 use Rattle.parse.specs.declared.Emoji.the-variants.{Text, Color}
 use Rattle.token.specs.Token.{kindOf}
-use Rattle.parse.specs.Rule.{Test, Rule, skip, stop, push, note, mark, seq, choose, while, part, is, isBreak, isScalar, isEmoji, member, oneOf, setBroken, setEmoji}
+use Rattle.parse.specs.Rule.{Test, Rule, skip, stop, push, note, mark, seq, choose, while, part, is, isBreak, isScalar, isEmoji, oneOf, setBroken, setEmoji}
 use Rattle.parse.specs.Shared.{emojiMark, emojiExtension, emojiTurn, emojis, newline, otherArm}
 use Rattle.complex.specs.Grammar.{given, toShapeClass, byKind, baseVs, symbolMarks, consonantMarks, isCoeng, halant, opensHalant, halantBase, isVowelModifier, vowelModifier, medials, vowels, finals, syllable, markedSyllable, isSymbolMark, standardTail, standard, halantNumber, number, symbol, letter, cluster}
 use Rattle.tables.specs.ComplexTable.{complexTable}

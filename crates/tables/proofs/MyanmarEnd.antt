@@ -1,7 +1,7 @@
 -- A call of the Myanmar grammar that the table takes passes over no end of the text. Assumes nothing.
 use Prim.Native.Nat.{ℕ, _+_}
 use mathlib.Core.Path.{_≡_, refl, sym, _∙_, ap}
-use mathlib.Core.Bool.{Bool, true, false, cond}
+use mathlib.Core.Bool.{Bool, true, false, cond, false≢true}
 use mathlib.Core.List.{List}
 use lib.Dec.{eqb, ltb}
 use lib.ListN.{length}
@@ -15,7 +15,6 @@ use Rattle.parse.specs.declared.Parse.{Parse}
 use Rattle.parse.specs.State.{begin}
 use Rattle.parse.specs.Rule.{Test, isEmoji, is}
 use Rattle.parse.specs.Shared.{emojis, otherArm}
-use Rattle.parse.proofs.Loop.{false-true}
 use Rattle.myanmar.specs.Grammar.{cluster, isAlone, kinzi, syllable, isKinzi}
 use Rattle.myanmar.proofs.Repeat.{emojis-free, other-free, syllable-free}
 use Rattle.tables.specs.Symbols.{endsAt, myanmarIn, myanmarSymbol, Regular}
@@ -25,7 +24,7 @@ use Rattle.tables.proofs.MyanmarFine as fine
 
 ends-parts : (a b : Bool) → cond a b true ≡ false → (a ≡ true) × (b ≡ false)
 ends-parts true b e = (refl, e)
-ends-parts false b e = absurd (false-true (sym e))
+ends-parts false b e = absurd (false≢true (sym e))
 
 not-left : (w : Bool) → eqb (cond w 33 32) 33 ≡ false → w ≡ false
 not-left true e = e

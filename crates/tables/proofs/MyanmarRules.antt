@@ -6,9 +6,10 @@ use mathlib.Core.Bool.{Bool, true, false, cond}
 use mathlib.Core.List.{List, [], _∷_, map}
 use lib.Dec.{eqb, ltb}
 use lib.ListN.{getD}
+use Rattle.basics.specs.Sets.{member}
 use Rattle.classes.specs.declared.Shape.the-variants.{Base, Mark, Control, Kinzi, Halant, VPre, VBlw, MedialRa, Anusvara, Vs, Zwnj, Zwj, Other}
 use Rattle.parse.specs.declared.Emoji.the-variants.{Text, Color}
-use Rattle.parse.specs.Rule.{Test, Rule, skip, stop, push, note, mark, seq, choose, while, part, is, isBreak, isScalar, isEmoji, member, oneOf, setBroken, setEmoji}
+use Rattle.parse.specs.Rule.{Test, Rule, skip, stop, push, note, mark, seq, choose, while, part, is, isBreak, isScalar, isEmoji, oneOf, setBroken, setEmoji}
 use Rattle.parse.specs.Shared.{emojiMark, emojiExtension, emojiTurn, emojis, newline, otherArm}
 use Rattle.myanmar.specs.Grammar.{isKinzi, acceptWithAs, stacked, postBaseVowel, pwoToneMark, medials, vowels, finals, base, kinzi, syllable, isAlone, cluster}
 use Rattle.tables.specs.MyanmarTable.{myanmarTable}

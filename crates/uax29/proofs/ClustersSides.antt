@@ -2,34 +2,16 @@
 -- own claim, so that `search` over a ruleset follows the code. Assumes nothing.
 use Prim.Native.Nat.{ℕ, zero, suc, _+_, _-_, _<_, _≤_}
 use mathlib.Core.Path.{_≡_, refl, sym, _∙_, ap}
-use mathlib.Core.Bool.{Bool, true, false, cond, not, _&&_, _||_}
+use mathlib.Core.Bool.{Bool, true, false, cond, not, _&&_, _||_, and-false, or-false, false≢true, Bool·not-not}
 use mathlib.Core.List.{List, [], _∷_}
 use native.Mathlib.Omega.{arith}
 use lib.Dec.{eqb, leb, ltb}
 use lib.ListN.{length}
 use borrow.Author.Tests.{lt-ltb, le-ltb, ltb-true, ltb-false, le-leb, lt-leb, eq-eqb, ne-eqb}
+use Rattle.basics.proofs.Tests.{by-test}
 use Rattle.records.specs.Text.{cell}
 use Rattle.uax29.specs.Clusters.{Item, Test, Side, Rule, is, isNot, among, pictographic, edge, any, one, next, many, pairs, applies, decide, itemAt, beforeOf, itemsFrom, afterOf, rules, boundaryAt}
 use Rattle.uax29.specs.ClustersBack.{beyond}
-
-false-true : false ≡ true → ⊥
-false-true e = let z : _≡_ {A = ℕ} 0 1 = cc in omega arith
-
-by-test : {A : Type 0} (b : Bool) → (b ≡ true → A) → (b ≡ false → A) → A
-by-test true f g = f refl
-by-test false f g = g refl
-
-not-not : (b : Bool) → not (not b) ≡ b
-not-not true = refl
-not-not false = refl
-
-and-false : (b : Bool) → (b && false) ≡ false
-and-false true = refl
-and-false false = refl
-
-or-false : (b : Bool) → (b || false) ≡ b
-or-false true = refl
-or-false false = refl
 
 not-lt : (i n : ℕ) → not (ltb i n) ≡ leb n i
 not-lt i n = by-test (ltb i n)
@@ -143,7 +125,7 @@ module _ (breaks marks : List ℕ) (at : ℕ) where
 
   any-after : any (afterOf breaks marks at) ≡ ltb at (length breaks)
   unfolding any
-  any-after = ap not edge-after ∙ not-not (ltb at (length breaks))
+  any-after = ap not edge-after ∙ Bool·not-not (ltb at (length breaks))
 
   module _ (e : at ≡ 0) where
     pub start-parts : ltb at (length breaks) ≡ (edge (beforeOf breaks marks at) && any (afterOf breaks marks at))
@@ -221,7 +203,7 @@ pub ruleset nexts = (next-none, next-not, next-then)
 -- a test of a character that holds has a character
 pub there : (breaks marks : List ℕ) (at : ℕ) (p : Test) (t : Bool) → t ≡ one p (beforeOf breaks marks at) → t ≡ true → 0 < at
 unfolding one beforeOf
-there breaks marks zero p t e h = absurd (false-true (sym e ∙ h))
+there breaks marks zero p t e h = absurd (false≢true (sym e ∙ h))
 there breaks marks (suc at) p t e h = omega arith
 
 pub there-falls : (breaks marks : List ℕ) (at : ℕ) (p : Test) (t : Bool) → t ≡ one p (beforeOf breaks marks at) → t ≡ true → at - 1 < at
@@ -229,7 +211,7 @@ there-falls breaks marks at p t e h = omega (arith, there breaks marks at p t e 
 
 or-true : (a b : Bool) → a ≡ true → (a || b) ≡ true
 or-true true b e = refl
-or-true false b e = absurd (false-true e)
+or-true false b e = absurd (false≢true e)
 
 -- A look back over p* for a character of which q holds: it is here, or one character on, or nowhere else.
 module _ (p q : Test) where
@@ -287,8 +269,8 @@ module _ (breaks marks : List ℕ) (at i : ℕ) (p : Test) (inv : beyond p (befo
   pair-there h = go i (sym et ∙ h)
     where
       go : (j : ℕ) → next p (one p) (beforeOf breaks marks j) ≡ true → 2 ≤ j
-      go zero k = absurd (false-true k)
-      go (suc zero) k = absurd (false-true (sym (and-false (p (itemAt breaks marks 0))) ∙ k))
+      go zero k = absurd (false≢true k)
+      go (suc zero) k = absurd (false≢true (sym (and-false (p (itemAt breaks marks 0))) ∙ k))
       go (suc (suc j)) k = omega arith
 
   pub pair-falls : t ≡ true → i - 2 < i
@@ -308,8 +290,8 @@ module _ (breaks marks : List ℕ) (at i : ℕ) (p : Test) (inv : beyond p (befo
   pair-turns h = go i (sym et ∙ h) ∙ inv
     where
       go : (j : ℕ) → next p (one p) (beforeOf breaks marks j) ≡ true → beyond p (beforeOf breaks marks (j - 2)) ≡ beyond p (beforeOf breaks marks j)
-      go zero k = absurd (false-true k)
-      go (suc zero) k = absurd (false-true (sym (and-false (p (itemAt breaks marks 0))) ∙ k))
+      go zero k = absurd (false≢true k)
+      go (suc zero) k = absurd (false≢true (sym (and-false (p (itemAt breaks marks 0))) ∙ k))
       go (suc (suc j)) k = let e : suc (suc j) - 2 ≡ j = omega arith in
           ap (λ l. beyond p (beforeOf breaks marks l)) e ∙ sym (beyond-pair p (itemAt breaks marks (suc j)) (itemAt breaks marks j) (beforeOf breaks marks j) k)
 

@@ -5,8 +5,9 @@ use mathlib.Core.Path.{_≡_}
 use mathlib.Core.Bool.{Bool, true, false}
 use lib.Dec.{eqb}
 use borrow.Author.Tests.{eq-eqb, ne-eqb}
+use Rattle.basics.specs.Choices.{_⇒_▹_}
 use Rattle.uax29.specs.declared.words.Set.{Set}
-use Rattle.uax29.specs.WordsSeen.{holds, _⇒_▹_}
+use Rattle.uax29.specs.WordsSeen.{holds}
 
 -- t is what a call said of the test, r what the rest of the code says of the later ones
 module _ (a t : Bool) (e : t ≡ a) (answer later : Bool) where

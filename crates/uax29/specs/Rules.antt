@@ -4,8 +4,8 @@ use mathlib.Core.Bool.{Bool, true, false, cond, not, _&&_, _||_}
 use mathlib.Core.List.{List, [], _∷_}
 use lib.Dec.{eqb}
 use lib.ListN.{length}
+use Rattle.basics.specs.Sets.{member}
 use Rattle.records.specs.Text.{cell}
-use Rattle.records.specs.Refusals.{member}
 
 -- a character as the rules see it: the code of its class, and 1 where it is Extended_Pictographic
 pub record Item : Type 0 where

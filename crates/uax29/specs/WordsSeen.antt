@@ -5,9 +5,10 @@ use mathlib.Core.Bool.{Bool, true, false, cond, not, _&&_}
 use mathlib.Core.List.{List, _++_}
 use lib.Dec.{eqb, leb}
 use lib.ListN.{length, drop}
+use Rattle.basics.specs.Choices.{_⇒_▹_}
+use Rattle.basics.specs.Sets.{member}
 use Rattle.classes.specs.WordBreak.{Other, CR, LF, ZWJ, WSegSpace, HL, NU, SQ, DQ, KA, EX, RI}
 use Rattle.records.specs.Text.{cell}
-use Rattle.records.specs.Refusals.{member}
 use Rattle.uax29.specs.Words.{AHLetter, newlines, ignored, midLetters, midNumbers, extendable, extended, boundaries}
 use Rattle.uax29.specs.declared.words.Seen.{Seen}
 use Rattle.uax29.specs.declared.words.Set.{Set}
@@ -25,11 +26,6 @@ holds Extended x = member extended x
 
 abbrev pub both : Set → ℕ → Set → ℕ → Bool
 both s x t y = holds s x && holds t y
-
--- the answer where the test holds, and what comes later where it does not
-infixr 20 _⇒_▹_
-abbrev pub _⇒_▹_ : Bool → Bool → Bool → Bool
-test ⇒ answer ▹ later = cond test answer later
 
 unfoldable pub fromWB15 : ℕ → Bool → Bool
 fromWB15 b odd =

@@ -7,8 +7,8 @@ ghost use mathlib.Core.List.{[], _∷_};
 ghost use Prim.Native.Nat.{_+_, _-_, _≤_};
 ghost use lib.Dec.{eqb};
 ghost use lib.ListN.{length};
+ghost use Rattle.basics.specs.Sets.{member};
 ghost use Rattle.classes.specs.WordBreak as WordBreak;
-ghost use Rattle.records.specs.Refusals.{member};
 ghost use Rattle.uax29.specs.WordsSeen.{holds, both, fromWB3c, fromWB5, fromWB7a, fromWB8, fromWB13, fromWB15, afterWB4, decided, hasX, boundaryCells};
 ghost use Rattle.uax29.specs.WordsSeen as WordsSeen;
 

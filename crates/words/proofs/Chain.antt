@@ -4,16 +4,18 @@ use Prim.Native.Nat.{ℕ}
 use mathlib.Core.Path.{_≡_}
 use mathlib.Core.Bool.{Bool, true, false}
 use mathlib.Core.List.{List}
-use Rattle.records.specs.Refusals.{member, outside}
+use Rattle.basics.proofs.Choices.{or-last}
+use Rattle.basics.specs.Choices.{_⇒_▹_}
+use Rattle.basics.specs.Sets.{member}
+use Rattle.records.specs.Refusals.{outside}
 use Rattle.words.specs.declared.WordState.{WordState}
 use Rattle.words.specs.declared.WordStep.{WordStep}
 use Rattle.words.specs.declared.Exit.{Exit}
 use Rattle.words.specs.declared.Next.{Next}
 use Rattle.words.specs.declared.Next.the-variants.{Class}
-use Rattle.words.specs.Rules.{_⇒_▹_, leaves, nextIn, ruled}
+use Rattle.words.specs.Rules.{leaves, nextIn, ruled}
 use Rattle.words.specs.Step.{nextCodes, stepVerdict, stepOf}
 use Rattle.classes.specs.WordBreak as WordBreak
-use Rattle.records.proofs.Chain.{or-last}
 use Rattle.records.specs.declared.Side.{Side}
 use Rattle.records.specs.declared.Verdict.{Verdict}
 use Rattle.records.specs.declared.Verdict.the-variants.{Accepted, Refused}

@@ -7,8 +7,9 @@ use Prim.Native.Nat.{ℕ, _+_}
 use mathlib.Core.Bool.{Bool, true, false, cond, _&&_, _||_}
 use mathlib.Core.List.{List, [], _∷_}
 use lib.Dec.{eqb, leb}
+use Rattle.basics.specs.Choices.{_⇒_▹_}
+use Rattle.basics.specs.Sets.{member}
 use Rattle.classes.specs.WordBreak.{CR, LF, NL, Extend, ZWJ, FO, WSegSpace, ALetter, HL, ML, MidNumLet, MN, NU, SQ, DQ, KA, EX, RI}
-use Rattle.records.specs.Refusals.{member}
 use Rattle.records.specs.declared.Verdict.the-variants.{Accepted}
 use Rattle.words.specs.declared.WordState.{WordState}
 use Rattle.words.specs.declared.WordStep.{WordStep}
@@ -89,11 +90,6 @@ toExtender a b = eqb b EX && member (EX ∷ KA ∷ NU ∷ AHLetter) a
 -- WB13b: ExtendNumLet × (AHLetter | Numeric | Katakana)
 abbrev pub fromExtender : ℕ → ℕ → Bool
 fromExtender a b = eqb a EX && member (KA ∷ NU ∷ AHLetter) b
-
--- an exit where the test holds, and what comes later where it does not
-infixr 20 _⇒_▹_
-abbrev pub _⇒_▹_ : Bool → Exit → Exit → Exit
-test ⇒ exit ▹ later = cond test exit later
 
 -- from `a == CR && b == LF` on
 unfoldable pub pairRules : ℕ → ℕ → ℕ → Exit → Exit

@@ -1,8 +1,9 @@
 use native.Mathlib.Omega.{arith}
+use Rattle.basics.specs.Sets.{every}
 use Rattle.cases.proofs.Fields.{none-counted, items-more, items-fail, items-all}
 use Rattle.cases.proofs.Splits.{rest-more}
 use Rattle.cases.specs.Items.{itemFits}
-use Rattle.cases.specs.Parts.{rest, allBelow}
+use Rattle.cases.specs.Parts.{rest}
 use lib.ListN.{drop}
 use mathlib.Core.Bool.{true}
 use mathlib.Core.Path.{_≡_, refl}
@@ -12,7 +13,7 @@ use Rattle.cases.proofs.items.count_items.Statement.{statement}
 use Rattle.cases.proofs.items.count_items.Tie as tie
 
 abbrev Inv-loop : tie.InvT-loop
-Inv-loop section kind last at₀ i₀ at i = (i ≤ last) × ((drop at section ≡ rest 32 i section) × (allBelow (itemFits kind section) i ≡ true))
+Inv-loop section kind last at₀ i₀ at i = (i ≤ last) × ((drop at section ≡ rest 32 i section) × (every (itemFits kind section) i ≡ true))
 
 abbrev μ-loop : tie.MeasureT-loop
 μ-loop section kind last at₀ i₀ at i = last - i
@@ -24,7 +25,7 @@ count-requires : tie.Need-count-requires Inv-loop μ-loop
 count-requires c κs = search needs
 
 loop-holds : tie.Need-loop-holds Inv-loop μ-loop
-loop-holds c = unfold rest allBelow in (search needs, (refl, refl))
+loop-holds c = unfold rest every in (search needs, (refl, refl))
 
 part-at-requires : tie.Need-part-at-requires Inv-loop μ-loop
 part-at-requires c κs = search needs

@@ -1,4 +1,4 @@
-use Rattle.cases.proofs.Choices.{choices}
+use Rattle.basics.proofs.Choices.{choices}
 use Rattle.cases.specs.Lines.{fullAsked}
 use mathlib.Core.Path.{refl}
 use Rattle.cases.proofs.lines.full_asked.Statement.{statement}

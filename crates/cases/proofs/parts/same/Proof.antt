@@ -1,5 +1,6 @@
+use Rattle.basics.specs.Sets.{every}
 use Rattle.cases.proofs.Splits.{equal-short, equal-fails, equal-all, equal-more}
-use Rattle.cases.specs.Parts.{allBelow, agree}
+use Rattle.cases.specs.Parts.{agree}
 use native.Mathlib.Omega.{arith}
 use lib.ListN.{length}
 use mathlib.Core.Bool.{true}
@@ -10,7 +11,7 @@ use Rattle.cases.proofs.parts.same.Statement.{statement}
 use Rattle.cases.proofs.parts.same.Tie as tie
 
 abbrev Inv-loop : tie.InvT-loop
-Inv-loop xs ys i₀ i = (i ≤ length xs) × (allBelow (agree xs ys) i ≡ true)
+Inv-loop xs ys i₀ i = (i ≤ length xs) × (every (agree xs ys) i ≡ true)
 
 abbrev μ-loop : tie.MeasureT-loop
 μ-loop xs ys i₀ i = length xs - i
@@ -19,7 +20,7 @@ returns : tie.Need-returns Inv-loop μ-loop
 returns c = search equal-short
 
 loop-holds : tie.Need-loop-holds Inv-loop μ-loop
-loop-holds c = unfold allBelow in (search needs, refl)
+loop-holds c = unfold every in (search needs, refl)
 
 shared-slice-read-if2 : tie.Need-shared-slice-read-if2 Inv-loop μ-loop
 shared-slice-read-if2 c = search needs

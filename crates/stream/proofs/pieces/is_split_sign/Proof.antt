@@ -1,5 +1,5 @@
-use Rattle.records.proofs.Chain.{chains}
 use borrow.Author.Needs.{needs}
+use Rattle.basics.proofs.Choices.{chains}
 use Rattle.stream.proofs.pieces.is_split_sign.Statement.{statement}
 use Rattle.stream.proofs.pieces.is_split_sign.Tie as tie
 

@@ -1,4 +1,4 @@
-use Rattle.records.proofs.Chain.{chains}
+use Rattle.basics.proofs.Choices.{chains}
 use Rattle.uax29.proofs.words.in2.Statement.{statement}
 use Rattle.uax29.proofs.words.in2.Tie as tie
 

@@ -1,4 +1,4 @@
-use Rattle.records.proofs.Chain.{not-call}
+use Rattle.basics.proofs.Choices.{not-call}
 use Rattle.uax29.proofs.WordsChain.{tests}
 use Rattle.uax29.specs.WordsSeen.{hasX}
 use borrow.Author.Needs.{needs}
