@@ -4,6 +4,7 @@ use mathlib.Core.Bool.{Bool, true, cond, _&&_}
 use mathlib.Core.List.{List, [], _∷_}
 use lib.Dec.{eqb, ltb}
 use lib.ListN.{length, getD, take, drop}
+use Rattle.basics.specs.Sets.{every}
 
 -- how many bytes stand before the first s
 unfoldable pub before : ℕ → List ℕ → ℕ
@@ -42,7 +43,7 @@ unfoldable pub agree : List ℕ → List ℕ → ℕ → Bool
 agree xs ys i = eqb (getD xs i 0) (getD ys i 0)
 
 unfoldable pub equal : List ℕ → List ℕ → Bool
-equal xs ys = eqb (length xs) (length ys) && allBelow (agree xs ys) (length xs)
+equal xs ys = eqb (length xs) (length ys) && every (agree xs ys) (length xs)
 
 -- the byte of a text of one byte, else 0
 unfoldable pub sign : List ℕ → ℕ
