@@ -1,4 +1,4 @@
-/* The codes of document 01's lists and of the answers. Written by tools/codes from the crates' definitions; do not edit. */
+/* The codes of the class lists and the numbers of the answers. Written by tools/codes from the crates' definitions; do not edit. */
 #ifndef EZHERBUT_CODES_H
 #define EZHERBUT_CODES_H
 

@@ -94,7 +94,7 @@ next-after s at xs = go (ltb end (length xs)) refl ∙ sym (drop-drop (suc (befo
         let m : length xs ≤ at + suc (before s (drop at xs)) = omega arith in
         drop-of-length-le xs l ∙ sym (drop-of-length-le xs m)
 
--- "Uniqueness is shown"
+-- no two answers of `next_of` fulfil its contract (SCOPE 10)
 pub next-of-unique : (s at : ℕ) (xs : List ℕ) (a b : ℕ) → a ≡ nextFrom s at xs → b ≡ nextFrom s at xs → a ≡ b
 next-of-unique s at xs = unique (nextFrom s at xs)
 

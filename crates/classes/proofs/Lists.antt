@@ -1,4 +1,4 @@
--- The five lists of document 01, and its list of shape classes: "codes count from 0", there are as many as the list's length says, and
+-- The five lists of SCOPE 2.2 and the shape classes of SCOPE 4.1: codes count from 0, there are as many as the list's length says, and
 -- no two are equal. One computed test says it of all six, and one law turns the test into the rule at each code.
 -- Assumes nothing.
 use Prim.Native.Nat.{ℕ, zero, suc, _+_, _<_}

@@ -1,5 +1,5 @@
-// The named values of document 01: the five lists of classes, the classes that a pushed character gets, the scalars that the parsers
-// name, and the two modes.
+// The named values of SCOPE: the five lists of classes, the classes that a pushed character gets, the scalars that the parsers name,
+// and the two modes.
 pub mod category;
 pub mod cluster_break;
 pub mod myanmar_class;
@@ -10,7 +10,7 @@ pub mod word_break;
 ghost use mathlib.Core.Path.{_≡_};
 ghost use Rattle.classes.specs.Shape.{shapeCode};
 
-// "In crate mode document 000 decides"; whole mode is our own and repeats no character.
+// Crate mode answers as the Rust does; whole mode is ours and repeats no character (SCOPE 1.3).
 pub enum Mode {
     Crate,
     Whole,

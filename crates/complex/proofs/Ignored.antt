@@ -1,4 +1,5 @@
--- "The results of the first CMAbv and CMBlw runs are ignored. With refusal 6 this pushes nothing more." Assumes nothing.
+-- The Rust does not look at the results of the first CMAbv and CMBlw runs. "Refusal 6 leaves no such text, and then going on pushes
+-- nothing" (SCOPE 6.6). Assumes nothing.
 use Prim.Native.Nat.{ℕ}
 use mathlib.Core.Path.{_≡_, refl, sym, _∙_, ap}
 use mathlib.Core.Bool.{Bool, true, false, cond, false≢true}
@@ -115,7 +116,7 @@ module _ (khmer : Bool) (text : List ℕ) where
         ∙ ended q h
         ∙ ap (unlessEnded khmer text) (sym (run-still (many CMBlw) text q h))
 
-    -- "With refusal 6 this pushes nothing more", whatever the parse that comes to the two runs in crate mode.
+    -- With refusal 6 going on pushes nothing, whatever the parse that comes to the two runs in crate mode.
     pub no-more : (s : Parse) → s .mode ≡ Crate → markedSyllableAsRust khmer text s ≡ noMore khmer text s
     no-more s m = if-intro (λ u. markedSyllableAsRust khmer text s ≡ u) (going s) _ _
         (λ g. let spent = many-spent text CMAbv s m g in

@@ -1,4 +1,4 @@
--- "With refusal 6 this pushes nothing more": a run of consonant marks that ended at a cluster of 32 or at the end of the text has left as
+-- Why going on pushes nothing (SCOPE 6.6): a run of consonant marks that ended at a cluster of 32 or at the end of the text has left as
 -- current token one of its own class or a U+034F, and the tail asks for neither. Assumes nothing.
 use Prim.Native.Nat.{ℕ}
 use mathlib.Core.Path.{_≡_, refl, sym, _∙_, ap}

@@ -80,8 +80,8 @@ unfoldable pub syllable : Bool → Rule
 syllable khmer = while opensHalant (halantBase khmer) ▸ medials ▸ vowels ▸ while isVowelModifier vowelModifier ▸ finals
 
 -- `parse_standard_tail`, where it is no symbol. The Rust ignores the results of these two runs: where one ended at a cluster of 32 or
--- at the end of the text it goes on with the same token. "With refusal 6 this pushes nothing more" (Ignored.antt), so that the
--- rule need not say it.
+-- at the end of the text it goes on with the same token. With refusal 6 that pushes nothing (SCOPE 6.6, Ignored.antt), so that
+-- the rule need not say it.
 unfoldable pub markedSyllable : Bool → Rule
 markedSyllable khmer = consonantMarks ▸ syllable khmer
 

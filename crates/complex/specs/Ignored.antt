@@ -1,5 +1,6 @@
--- "Complex: the results of the first CMAbv and CMBlw runs are ignored. With refusal 6 this pushes nothing more." What the Rust does at
--- that place, to be compared with the rule `markedSyllable`, which ends there as everywhere else.
+-- "The Rust does not look whether the first `CMAbv*` and `CMBlw*` came to 32 characters or to the end of the text, and goes on with the
+-- token that is still current" (SCOPE 6.6). What it does at that place, to be compared with the rule `markedSyllable`, which ends there
+-- as everywhere else.
 use Prim.Native.Nat.{ℕ, _<_}
 use mathlib.Core.Path.{_≡_}
 use mathlib.Core.Bool.{Bool, true, false, cond}

@@ -1,4 +1,4 @@
--- "The rules' definitions are shown to give these sixteen by one statement over a single table." The checker computes both sides.
+-- "One statement over one table says that the definitions give them all" (SCOPE 9.1). The checker computes both sides.
 -- Assumes nothing.
 use Prim.Native.Nat.{ℕ}
 use mathlib.Core.Path.{_≡_, refl, sym, _∙_, ap}
@@ -60,12 +60,12 @@ later (o ∷ os) = os
 pub marked : (length table ≡ 16) × ((map {B = ℕ} length table ≡ replicate 14 1 ++ (2 ∷ 2 ∷ [])) × (map (map given) table ≡ map (map told) table))
 marked = (refl, (refl, ap later (computed .0)))
 
--- and so how document 01 is read where it is open
+-- and so the corners of SCOPE 6
 pub read : (length readings ≡ 7) × (map given readings ≡ map told readings)
 read = (refl, ap first (computed .0))
 
--- "Programs to be shown shut out: … one that takes the whole text in its first call and then nothing (32 at most, P04)": of those that
--- meet the stepping call's contract, for each parser and mode
+-- Ruled out is "one whose first call swallows the text and whose others find nothing" (SCOPE 10): it does not meet the stepping call's
+-- contract, for each parser and mode.
 pub takes-text : (f : Segmenter → Text → Answer) → ((s : Segmenter) (t : Text) → f s t ≡ Calls.nextOf s t) → (parser : Parser) (mode : Mode) → ((t : Text) → Refusals.verdict parser t ≡ Accepted → ((f (standing parser mode 0) t) .state) .place .at ≡ length (Tokens.streamOf mode parser t)) → ⊥
 takes-text f meets parser mode h =
     let (accepted, two, one) = computed .1 parser mode in

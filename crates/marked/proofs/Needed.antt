@@ -1,5 +1,5 @@
--- "The results of the first CMAbv and CMBlw runs are ignored. With refusal 6 this pushes nothing more": the texts on which, without
--- refusal 6, the one or the other would push more (complex: `needed`) are texts that refusal 6 refuses. The checker computes both sides.
+-- Refusal 6 is needed (SCOPE 6.6): the texts on which, without it, going on behind the first CMAbv or CMBlw run would push more
+-- (complex: `needed`) are texts that it refuses. The checker computes both sides.
 -- Assumes nothing.
 use Prim.Native.Nat.{ℕ}
 use mathlib.Core.Path.{_≡_, refl}

@@ -1,4 +1,4 @@
--- The sixteen marked cases of document 01 as one table: texts, and what the calls answer on each, from the start to the end.
+-- The sixteen marked cases of SCOPE 9.1 as one table: texts, and what the calls answer on each, from the start to the end.
 use Prim.Native.Nat.{ℕ, zero, suc, _+_, _-_}
 use mathlib.Core.Bool.{Bool, true, false}
 use mathlib.Core.List.{List, [], _∷_, _++_, map}
@@ -164,39 +164,39 @@ accentedChars n = char 0x61 Base 0 ∷ chars n 0x301 Mark 1
 abbrev pub flag : ℕ → Sign
 flag scalar = sign scalar Break.RI
 
--- P01 "S, empty: no call but the end's answer."
+-- P01 simple, empty: the end, at once
 abbrev pub P01 : List Case
 P01 = both Simple [] [] ∷ []
 
--- P02 "S, CR LF: one cluster, newline, Control Control."
+-- P02 simple, CR LF: Control Control; newline
 abbrev pub P02 : List Case
 P02 =
     both Simple (sign Scalar.CR Break.CR ∷ sign Scalar.LF Break.LF ∷ [])
     (call (char Scalar.CR Control 0 ∷ char Scalar.LF Control 1 ∷ []) (spaced Newline) 2 ∷ [])
     ∷ []
 
--- P03 "S, LF then U+0301 as EX: one cluster, newline, Control Mark, normalise."
+-- P03 simple, LF U+0301: Control Mark; newline, normalising forced
 abbrev pub P03 : List Case
 P03 =
     both Simple (sign Scalar.LF Break.LF ∷ sign 0x301 Break.EX ∷ [])
     (call (char Scalar.LF Control 0 ∷ char 0x301 Mark 1 ∷ []) (normal (spaced Newline)) 2 ∷ [])
     ∷ []
 
--- P04 "S, RI RI: two clusters."
+-- P04 simple, RI RI: Base, then Base
 abbrev pub P04 : List Case
 P04 =
     both Simple (flag 0x1F1E6 ∷ flag 0x1F1E7 ∷ [])
     (call (char 0x1F1E6 Base 0 ∷ []) noInfo 1 ∷ call (char 0x1F1E7 Base 1 ∷ []) noInfo 2 ∷ [])
     ∷ []
 
--- P05 "S, L V T: two characters, then one."
+-- P05 simple, L V T: Base Base, then Base
 abbrev pub P05 : List Case
 P05 =
     both Simple (sign 0x1100 Break.L ∷ sign 0x1161 Break.«V» ∷ sign 0x11A8 Break.T ∷ [])
     (call (char 0x1100 Base 0 ∷ char 0x1161 Base 1 ∷ []) noInfo 2 ∷ call (char 0x11A8 Base 2 ∷ []) noInfo 3 ∷ [])
     ∷ []
 
--- P06 "S, emoji FE0F(EX) ZWJ emoji: one cluster, Base Zwj Base, one noted, Color."
+-- P06 simple, emoji U+FE0F (EX) ZWJ emoji: Base with one noted, Zwj, Base; Color
 abbrev pub P06 : List Case
 P06 =
     both Simple (emoji 0x1F468 ∷ sign 0xFE0F Break.EX ∷ sign 0x200D Break.ZWJ ∷ emoji 0x1F33E ∷ [])
@@ -205,11 +205,11 @@ P06 =
     ∷ [])
     ∷ []
 
--- P07 "S, XX and 30 U+0301: one cluster of 31."
+-- P07 simple, XX 30 × U+0301: one cluster, 31 characters
 abbrev pub P07 : List Case
 P07 = both Simple (accented 30) (call (accentedChars 30) (normal (spaced (From 0x61))) 31 ∷ []) ∷ []
 
--- P08 "S, XX and 31 U+0301: crate 32, then 1 (Mark, broken); whole one of 32."
+-- P08 simple, XX 31 × U+0301: crate 32 characters, then Mark, broken; whole 32 characters
 abbrev pub P08 : List Case
 P08 =
     clusters Simple (accented 31) []
@@ -217,7 +217,7 @@ P08 =
     (call (accentedChars 31) (normal (spaced (From 0x61))) 32 ∷ [])
     ∷ []
 
--- P09 "M, U+1004 C, 103A As, 1039 H: crate Kinzi Kinzi Kinzi Other, broken; whole three Kinzi."
+-- P09 Myanmar, U+1004 (C) U+103A (As) U+1039 (H): crate Kinzi Kinzi Kinzi Other, broken; whole Kinzi Kinzi Kinzi
 abbrev pub P09 : List Case
 P09 =
     clusters Myanmar label []
@@ -225,11 +225,11 @@ P09 =
     (call kinzi noInfo 3 ∷ [])
     ∷ []
 
--- P10 "M, P09 then U+1000 C: Kinzi three times, Base."
+-- P10 Myanmar, P09, then U+1000 (C): Kinzi Kinzi Kinzi Base
 abbrev pub P10 : List Case
 P10 = both Myanmar (label ++ (sign 0x1000 Myanmar-class.C ∷ [])) (call (kinzi ++ (char 0x1000 Base 3 ∷ [])) noInfo 4 ∷ []) ∷ []
 
--- P11 "M, P09 then 29 U+034F as rest: crate 32, then 1 (Other, broken); whole one of 32."
+-- P11 Myanmar, P09, then 29 × U+034F (rest): crate 32 characters, then Other, broken; whole 32 characters
 abbrev pub P11 : List Case
 P11 =
     clusters Myanmar (label ++ replicate 29 (sign CGJ Myanmar-class.REST)) []
@@ -237,31 +237,31 @@ P11 =
     (call (kinzi ++ chars 29 CGJ Other 3) noInfo 32 ∷ [])
     ∷ []
 
--- P12 "C, Khmer, U+1780 B, U+17BE VAbv, part U+17C1 VPre: Base VPre Other."
+-- P12 Khmer, U+1780 (B) U+17BE (VAbv), its part U+17C1 (VPre): Base VPre Other
 abbrev pub P12 : List Case
 P12 =
     let told = call (char 0x1780 Base 0 ∷ char KHMER-E VPre 1 ∷ char KHMER-OE Other 1 ∷ []) noInfo 3 ∷ [] in
     clusters Khmer (sign 0x1780 Use.B ∷ split KHMER-OE Use.VAbv ∷ []) (sign KHMER-E Use.VPre ∷ []) told told ∷ []
 
--- P13 "C, CR U+034F LF, all O: one cluster, newline, Control Other Control."
+-- P13 complex, CR U+034F LF, all of class O: Control Other Control; newline
 abbrev pub P13 : List Case
 P13 =
     both Complex (sign Scalar.CR Use.O ∷ sign CGJ Use.O ∷ sign Scalar.LF Use.O ∷ [])
     (call (char Scalar.CR Control 0 ∷ char CGJ Other 1 ∷ char Scalar.LF Control 2 ∷ []) (spaced Newline) 3 ∷ [])
     ∷ []
 
--- P14 "W, ALetter MidNumLet ALetter: 1 0 0."
+-- P14 words, ALetter MidNumLet ALetter: 1 0 0
 abbrev pub P14 : List Case
 P14 = plain (Word.ALetter ∷ Word.MidNumLet ∷ Word.ALetter ∷ []) (1 ∷ 0 ∷ 0 ∷ []) ∷ []
 
--- P15 "W, Other ZWJ Other, pictographs: 1 0 1.", whatever the mark of the ZWJ
+-- P15 words, Other ZWJ Other, both Others pictographs: 1 0 1, whatever the mark of the ZWJ
 abbrev pub P15 : List Case
 P15 =
     words (Word.Other ∷ Word.ZWJ ∷ Word.Other ∷ []) (1 ∷ 0 ∷ 1 ∷ []) (1 ∷ 0 ∷ 1 ∷ [])
     ∷ words (Word.Other ∷ Word.ZWJ ∷ Word.Other ∷ []) (1 ∷ 1 ∷ 1 ∷ []) (1 ∷ 0 ∷ 1 ∷ [])
     ∷ []
 
--- P16 "W, LF RI RI RI: 1 1 0 0. Without the LF: 1 0 1."
+-- P16 words, LF RI RI RI: 1 1 0 0; RI RI RI: 1 0 1
 abbrev pub P16 : List Case
 P16 =
     plain (Word.LF ∷ Word.RI ∷ Word.RI ∷ Word.RI ∷ []) (1 ∷ 1 ∷ 0 ∷ 0 ∷ [])
@@ -287,7 +287,7 @@ given (clusters parser signs parts crate whole) =
     record { crate = walked parser Crate t; whole = walked parser Whole t; cells = [] }
 given (words classes pictographs answers) = record { crate = []; whole = []; cells = runCells classes pictographs (map (λ _. 7) classes) }
 
--- what document 01 tells
+-- what SCOPE 9.1 tells
 unfoldable pub told : Case → Outcome
 told (clusters parser signs parts crate whole) =
     record { crate = answersOf parser Crate 0 crate; whole = answersOf parser Whole 0 whole; cells = [] }

@@ -74,7 +74,7 @@ module _ (text : List ℕ) (i : ℕ) (k : isKinzi text i ≡ true) where
         ap retriedOf (step-next text (withPlace (i + 1) p) (omega arith) (omega (arith, kinzi-inside)) (rw two (ap (λ x. eqb x CGJ) (kinzi-second .1)))) ∙ retried-going (withPlace (i + 1 + 1) p) refl in
         ap (λ q. ignoredStep text (ignoredStep text q)) e₁ ∙ ap (ignoredStep text) e₂ ∙ ap (λ j. ignoredStep text (withPlace j p)) two
 
-    -- Wherever a kinzi is met, "three pushes, three steps whose failure is ignored" leave what the rule leaves.
+    -- Wherever a kinzi is met, three pushes and three steps whose failure is not looked at leave what the rule leaves.
     pub kinzi-as-rust : run (thrice Kinzi) text start ≡ kinziAsRust text start
     unfolding run
     kinzi-as-rust = ap retriedOf thrice-steps ∙ sym rust-steps
@@ -147,7 +147,7 @@ module _ (text : List ℕ) where
       (λ l. let k = ltb-false (s .len) 32 l in
       ap (λ (q : Parse). isEnd (q .flow)) (sym (step-stays text s _ (sym (moved-full (length text) s k)) refl)) ∙ sym (reaches-full s k h))
 
--- the text ends behind a kinzi, within the cluster, exactly where document 01 says so
+-- the text ends behind a kinzi, within the cluster, exactly where SCOPE 6.8 says so
 pub kinzi-ends : (text : List ℕ) (i : ℕ) → isKinzi text i ≡ true → (m : Mode) → isEnd ((thriceOf text Kinzi (begin (record { at = i }) m true)) .flow) ≡ endsBehind text i
 kinzi-ends text i k m =
     ap (λ (q : Parse). isEnd (q .flow)) (thrice-steps text i k m)

@@ -1,4 +1,4 @@
--- Repeat (b) happens exactly where document 01 has it: a call sets `again` there and nowhere else, and where it is set the text's last
+-- Repeat (b) happens exactly where SCOPE 6.8 has it: a call sets `again` there and nowhere else, and where it is set the text's last
 -- token has been pushed a second time. Assumes nothing.
 use Prim.Native.Nat.{ℕ, _+_, _-_, _<_}
 use mathlib.Core.Path.{_≡_, refl, sym, _∙_, ap, subst}
@@ -222,7 +222,7 @@ module _ (text : List ℕ) (i : ℕ) (mode : Mode) where
   abbrev result : Parse
   result = run cluster text (begin (record { at = i }) mode true)
 
-  -- `again` is set exactly where document 01 has repeat (b)
+  -- `again` is set exactly where SCOPE 6.8 has repeat (b)
   pub again-is : result .again ≡ inCrate mode (repeatB text i)
   again-is = cluster-says text i mode
 

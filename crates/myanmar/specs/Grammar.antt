@@ -17,7 +17,7 @@ use Rattle.parse.specs.Shared.{emojis, otherArm}
 abbrev pub scalarAt : List ℕ → ℕ → ℕ
 scalarAt text i = scalarOf (tokenAt text i)
 
--- "U+1004, 101B or 105A, then 103A, then 1039"
+-- "Three tokens in a row with the scalars U+1004, U+101B or U+105A, then U+103A, then U+1039" (SCOPE 6.8)
 unfoldable pub isKinzi : Test
 isKinzi text i = cond (member kinziFirsts (scalarAt text i)) (cond (eqb (scalarAt text (i + 1)) ASAT) (eqb (scalarAt text (i + 2)) VIRAMA) false) false
 
@@ -50,8 +50,8 @@ finals = while (is VPst) postBaseVowel ▸ while (is PT) pwoToneMark ▸ many «
 unfoldable pub base : Rule
 base = take Base ▸ acceptAs VS Vs ▸ while (is H) stacked ▸ medials ▸ vowels ▸ finals
 
--- `parse`, its last arm: a kinzi, then by the class of the token that is current now; where "the last token is pushed again" that is by
--- its own class
+-- `parse`, its last arm: a kinzi, then by the class of the token that is current now; where the last token is taken once more
+-- that is by its own class
 unfoldable pub kinzi : Rule
 kinzi = choose isKinzi (thrice Kinzi) skip
 

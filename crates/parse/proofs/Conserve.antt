@@ -304,8 +304,8 @@ module _ (text : List ℕ) (short : length text ≤ 65535) (r : Rule) (p : Place
       go zero c = absurd (omega (arith, forward, c))
       go (suc n) c = omega arith
 
-  -- Repeat (a): "if a cluster has 32 and another follows, the other begins with the same token". The cluster has 32, and its last
-  -- character is the token at the place handed back, which is before the end.
+  -- Repeat (a): "the call hands back the place of the token that it pushed last" (SCOPE 6.7). The cluster has 32, and its last character
+  -- is the token at the place handed back, which is before the end.
   pub repeat-a : repeats result ≡ 1 → result .again ≡ false → (result .len ≡ 32) × (placeOf text result < length text) × Repeating text (p .at) (clusterOf result) (placeOf text result) (tokenAt text (placeOf text result))
   repeat-a e n =
       let k = full-repeat text (p .at) result call-kept e n in
@@ -315,7 +315,7 @@ module _ (text : List ℕ) (short : length text ≤ 65535) (r : Rule) (p : Place
   ended : repeats result ≡ 1 → result .again ≡ true → placeOf text result ≡ length text
   ended e h = rw (end-repeat text (p .at) result call-kept e h)
 
-  -- Repeat (b): "the last token is pushed again in the same cluster, and the next place is the end".
+  -- Repeat (b): the last token is taken once more, and the call hands back the end (SCOPE 6.8).
   pub repeat-b : repeats result ≡ 1 → result .again ≡ true → (getD (result .chars) (result .len - 1) nothing) .noted ≡ 0 → (placeOf text result ≡ length text) × Repeating text (p .at) (clusterOf result) (length text) (tokenAt text (length text - 1))
   repeat-b e h z =
       let d : placeOf text result ≡ length text = ended e h in
@@ -327,7 +327,7 @@ module _ (text : List ℕ) (short : length text ≤ 65535) (r : Rule) (p : Place
       let n : length (pushed result) ≡ result .len = length-take-le (result .len) (result .chars) (omega (arith, call-kept .0 .0, call-kept .0 .1)) in
       omega (arith, n, cover-count (look text) (pushed result) (p .at) (placeOf text result + repeats result) conserve)
 
-  -- Passed = pushed + noted, less one at a repeat; "passed" is "the distance between the two places".
+  -- Passed = pushed + noted, less one at a repeat; passed is the next place minus the place.
   pub passed : placeOf text result - p .at ≡ result .len + notes (pushed result) - repeats result
   passed = omega (arith, counted, forward)
 

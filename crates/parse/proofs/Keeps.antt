@@ -154,7 +154,7 @@ place-in r text s w = if-intro (λ k. k ≤ length text) ((run r text s) .done) 
 put-most : (t : ℕ) (c : Shape) (s : Parse) → s .len ≤ 32 → (putOf t c s) .len ≤ 32
 put-most t c s i = if-intro (λ (q : Parse). q .len ≤ 32) (ltb (s .len) 32) _ _ (λ h. omega (arith, ltb-true (s .len) 32 h)) (λ h. i)
 
--- "at most 32 pushed characters"
+-- "a cluster has 32 characters at most" (SCOPE 2.3)
 pub run-most : (r : Rule) (text : List ℕ) (s : Parse) → s .len ≤ 32 → (run r text s) .len ≤ 32
 run-most r text s w = run-keeps text (λ q. q .len ≤ 32) (λ q. q .len ≤ 32)
     (record {

@@ -34,8 +34,8 @@ pub data Rule : Type 0 where
   while : Test → Rule → Rule
   -- a stop in it ends it alone
   part : Rule → Rule
-  -- kinzi, a push and a step three times; that "three pushes, three steps whose failure is ignored" come to the same is `kinzi-as-rust`
-  -- of the crate `myanmar`
+  -- kinzi, a push and a step three times; that the Rust's three pushes and then three steps come to the same is `kinzi-as-rust` of the
+  -- crate `myanmar`
   thrice : Shape → Rule
 
 -- a test of the current token, where there is one to be taken

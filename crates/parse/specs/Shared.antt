@@ -13,7 +13,7 @@ use Rattle.parse.specs.declared.Emoji.the-variants.{Default, Text, Color
 use Rattle.parse.specs.declared.Space.the-variants.{Newline}
 use Rattle.parse.specs.Rule.{Rule, skip, stop, push, note, mark, choose, while, part, _▸_, take, isBreak, isScalar, isEmoji, setEmoji, setSpace, setSpaceFromChar}
 
--- `parse_emoji_extension`, its arm EX: "U+FE0E and U+FE0F inside an emoji extension are noted and not pushed"
+-- `parse_emoji_extension`, its arm EX: U+FE0F and U+FE0E "are noted instead" (SCOPE 6.2)
 unfoldable pub emojiMark : Rule
 emojiMark = choose (isScalar ZWNJ) (take Zwnj)
     (choose (isScalar VS16) (mark (setEmoji Color) ▸ note)

@@ -30,7 +30,7 @@ tokenAt text i = getD text i 0
 abbrev pub placeAfter : ℕ → ℕ → ℕ
 placeAfter n i = cond (ltb i n) (i + 1) i
 
--- "The start place and the empty cluster are named values of their types."
+-- `Place::START` and `Cluster::EMPTY` (SCOPE 3.2, 4.1)
 abbrev pub startPlace : Place
 startPlace = record { at = 0 }
 
@@ -97,13 +97,13 @@ putOf t c s = cond (ltb (s .len) 32) (withCells (s .len + 1) (set (s .chars) (s 
 abbrev pub notedMore : Pushed → Pushed
 notedMore c = record { scalar = c .scalar; index = c .index; noted = cond (ltb (c .noted) 65535) (c .noted + 1) (c .noted); class = c .class }
 
--- a token noted after the last character; "a note always follows a push", and where it would not it is one
+-- a token noted after the last character; "something has always been pushed before" (SCOPE 4.1), and where nothing was it is pushed
 abbrev pub notedOf : ℕ → Parse → Parse
 notedOf t s = cond (ltb 0 (s .len))
     (cond (ltb (s .len) 33) (withCells (s .len) (set (s .chars) (s .len - 1) (notedMore (getD (s .chars) (s .len - 1) nothing))) s) s)
     (putOf t Other s)
 
--- "A step onto a cluster of 32 does not move: that token stays current." In whole mode "a push to 32 passes its token".
+-- "In crate mode a step at 32 characters leaves the current token where it is" (SCOPE 6.7); in whole mode its token is passed (6.9)
 abbrev pub filledAt : Mode → ℕ → ℕ → ℕ
 filledAt Crate n i = i
 filledAt Whole n i = placeAfter n i
@@ -134,11 +134,12 @@ loop text test body s = atMost test body (turns text s) s
 abbrev pub hop : List ℕ → Parse → Parse
 hop text s = movedOf (length text) (putOf (tokenAt text (s .at)) Other s)
 
--- `advance`: onto the next token; "a step onto [U+034F] pushes it as Other and steps again, for as many as follow while there is room"
+-- `advance`: onto the next token; where that is U+034F, "it is taken as Other …, and so are all that follow it directly, as long as
+-- there is room" (SCOPE 6.2)
 unfoldable pub stepOf : List ℕ → Parse → Parse
 stepOf text s = loop text (onJoiner text) (hop text) (movedOf (length text) s)
 
--- "Push, then step."
+-- to take a token is "to push it as a character and then to step to the next" (SCOPE 6.1)
 unfoldable pub pushOf : List ℕ → Shape → Parse → Parse
 pushOf text c s = stepOf text (putOf (tokenAt text (s .at)) c s)
 
@@ -156,7 +157,7 @@ goOn End = End
 abbrev pub resumedOf : Parse → Parse
 resumedOf s = withFlow (goOn (s .flow)) s
 
--- repeat (b): the end of the text is passed over in crate mode, once a call; in whole mode it "ends the call at once"
+-- repeat (b): the end of the text is passed over in crate mode, once a call; in whole mode it ends the call (SCOPE 6.9)
 abbrev pub passesEnd : Mode → Flow → Bool → Bool
 passesEnd Whole f again = false
 passesEnd Crate GoOn again = false

@@ -75,8 +75,8 @@ fn token_of<'s, 'a>(text: &'s [&'a [u64]; 1], i: usize) -> u64
     token_at(text[0], i)
 }
 
-// "A step onto [U+034F] pushes it as Other and steps again, for as many as follow while there is room": the last token that is pushed so,
-// where a cluster of len characters steps off token i of n. Step and push call each other, and the room left falls. What goes round
+// A U+034F is taken as Other, and so are all that follow it directly, as long as there is room (SCOPE 6.2): the last token that is pushed
+// so, where a cluster of len characters steps off token i of n. Step and push call each other, and the room left falls. What goes round
 // is numbers and a thin reference alone, so that the compiler makes a loop of the two.
 fn step_past<'s, 'a>(text: &'s [&'a [u64]; 1], n: usize, i: usize, len: usize) -> usize
     ensures { λ r. ⌜ r ≡ stepPast (32 - len) n (held (now (text .entry))) i ⌝ }
@@ -268,7 +268,7 @@ impl Parse {
         at
     }
 
-    // "Push, then step": what the step pushes is pushed here.
+    // Push, then step: what the step pushes is pushed here.
     pub(crate) fn push(mut self, text: &[u64], mut class: Shape) -> Parse
         ensures { λ r. ⌜ r ≡ pushOf (now (text .entry)) class self ⌝ }
     {

@@ -1,5 +1,5 @@
--- Crate mode and whole mode fill a cluster together, up to its 32nd character: so "no cluster of 32", and with it what a plain text
--- is, does not depend on the mode. For every rule without a kinzi, on any text. Assumes nothing.
+-- Crate mode and whole mode fill a cluster together, up to its 32nd character: so whether a call pushes 32, and with it what a plain
+-- text is, does not depend on the mode. For every rule without a kinzi, on any text. Assumes nothing.
 use Prim.Native.Nat.{ℕ, zero, suc, _≤_}
 use mathlib.Core.Path.{_≡_, refl, sym, _∙_, ap, subst}
 use mathlib.Core.Bool.{Bool, true, false, cond, _&&_, false≢true}

@@ -110,7 +110,7 @@ module _ (mode : Mode) (stream breaks marks : List ℕ) (short : length stream �
       ∙ ap (λ xs. map (λ (c : Pushed). numberAt breaks marks (c .index)) (pushed p) ++ xs) those))
       (λ q. subst (λ ps. columnOf clusterIn k ps ≡ numbersOf breaks marks ps) (sym (calls-over mode stream n at q)) refl)
 
--- The cluster numbers of a run, "from 0", are those of UAX #29's clusters.
+-- The cluster numbers of a run, from 0, are those of UAX #29's clusters.
 pub numbers-plain : (mode : Mode) (t : Text) → verdict Simple t ≡ Accepted → isPlain mode t ≡ true → columnOf clusterIn 0 (simpleCalls mode t) ≡ numbersOf (t .records .breaks) (t .records .semojis) (simpleCalls mode t)
 unfolding isPlain numberAt
 numbers-plain mode t accepted plain =

@@ -225,8 +225,8 @@ module _ (mode : Mode) (stream breaks marks : List ℕ) (short : length stream �
       ∙ sym (next-place (boundaryAt breaks marks) (length stream) at (placeOf stream p) passes within (s i) (ends .0)))
       (λ q. ap (startsFrom stream at) (calls-over mode stream n at q) ∙ none-left at (ltb-false at (length stream) q))
 
--- "There the port's boundaries are UAX #29's, with the simple parser's emoji mark … read as Extended_Pictographic; the boundary at the
--- text's end is not written."
+-- "The simple parser's clusters start where UAX #29 has a grapheme cluster boundary, its emoji mark being read as
+-- Extended_Pictographic"; "the boundary at the text's start belongs to the answer and the one at its end does not" (SCOPE 8.2).
 pub clusters-plain : (mode : Mode) (t : Text) → verdict Simple t ≡ Accepted → isPlain mode t ≡ true → clusterStarts mode t ≡ boundaries (t .records .breaks) (t .records .semojis)
 unfolding isPlain
 clusters-plain mode t accepted plain =

@@ -1,4 +1,4 @@
--- "Words: no Extend, FO, ZWJ; no RI directly after CR, LF or NL. There the port's boundaries are UAX #29's."
+-- On plain word texts (SCOPE 8.1) "the word run writes 1 where UAX #29 has a word boundary" (8.2).
 -- Assumes nothing.
 use Prim.Native.Nat.{ℕ, zero, suc, _+_, _-_, _<_, _≤_}
 use mathlib.Core.Path.{_≡_, refl, sym, _∙_, ap, subst}
@@ -99,8 +99,8 @@ module _ (words pictographs : List ℕ) (plain : isPlainWords words ≡ true) wh
   answers-plain zero l = refl
   answers-plain (suc n) l = rw (answers-plain n (omega arith), answer-plain n l)
 
-  -- The answers to a whole text are the boundaries, and so are the cells that a run writes; "the boundary at the text's end is not
-  -- written".
+  -- The answers to a whole text are the boundaries, and so are the cells that a run writes; the boundary at the text's end does not
+  -- belong to them.
   pub words-plain : answers words pictographs (length words) ≡ boundaries words pictographs (length words)
   words-plain = answers-plain (length words) (le-refl (length words))
 

@@ -1,5 +1,6 @@
--- Plain cluster texts, as document 01 defines them: "for the simple parser alone: only XX, EX, SM, ZWJ, CR, LF, CN; emoji only on XX;
--- no EX, SM or ZWJ directly after CR, LF or CN; no cluster of 32." And where the simple parser's clusters start.
+-- Plain cluster texts, by the simple parser: "every cluster break is XX, CR, LF, CN, EX, SM or ZWJ; only XX has the emoji mark; none of
+-- EX, SM and ZWJ stands right behind a CR, LF or CN; and no call from the start on pushes 32 characters" (SCOPE 8.1). And where its
+-- clusters start.
 use Prim.Native.Nat.{ℕ, zero, suc, _+_}
 use mathlib.Core.Bool.{Bool, true, cond, not, _&&_, _||_}
 use mathlib.Core.List.{List, [], _∷_, _++_, map}
@@ -24,11 +25,11 @@ plainKinds = XX ∷ EX ∷ SM ∷ ZWJ ∷ CR ∷ LF ∷ CN ∷ []
 abbrev pub extensions : List ℕ
 extensions = EX ∷ SM ∷ ZWJ ∷ []
 
--- "emoji only on XX"
+-- "only XX has the emoji mark"
 unfoldable pub plainMark : ℕ → ℕ → Bool
 plainMark kind mark = eqb mark 0 || eqb kind XX
 
--- "no EX, SM or ZWJ directly after CR, LF or CN"
+-- "none of EX, SM and ZWJ stands right behind a CR, LF or CN"
 unfoldable pub plainPair : ℕ → ℕ → Bool
 plainPair kind next = not (member controls kind && member extensions next)
 
@@ -36,7 +37,7 @@ plainPair kind next = not (member controls kind && member extensions next)
 unfoldable pub plainAt : List ℕ → List ℕ → ℕ → Bool
 plainAt breaks marks i = member plainKinds (cell breaks i) && (plainMark (cell breaks i) (cell marks i) && plainPair (cell breaks i) (cell breaks (i + 1)))
 
--- "no cluster of 32"
+-- "no call from the start on pushes 32 characters"
 unfoldable pub allShort : List Parse → Bool
 allShort [] = true
 allShort (p ∷ ps) = ltb (p .len) 32 && allShort ps

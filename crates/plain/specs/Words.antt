@@ -1,4 +1,4 @@
--- Plain word texts, as document 01 defines them: "no Extend, FO, ZWJ; no RI directly after CR, LF or NL".
+-- Plain word texts: "no record is Extend, FO or ZWJ, and no RI stands right behind a CR, LF or NL" (SCOPE 8.1).
 use Prim.Native.Nat.{ℕ, _+_}
 use mathlib.Core.Bool.{Bool, not, _&&_}
 use mathlib.Core.List.{List}

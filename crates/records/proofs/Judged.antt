@@ -1,4 +1,4 @@
--- What the check says is what document 01's table says, and so is what every call says that begins with it and then looks for lines of
+-- What the check says is what the table of SCOPE 5.1 says, and so is what every call says that begins with it and then looks for lines of
 -- its own; the same of the word run's own check. Assumes nothing.
 use Prim.Native.Nat.{ℕ, zero, suc, _+_, _<_}
 use mathlib.Core.Path.{_≡_, refl, sym, _∙_, ap, subst}
@@ -88,7 +88,7 @@ table-first parser t more =
     )
     (four-then (judgeLengths (recordLengths (t .records)) (partLengths (t .parts))) (judgeParts parser (t .parts)) (judgeRecords parser (t .records) (length (t .parts .pscalars))) (judgeSigns parser t) (firstLine more Neither 0))
 
--- "complex only", "complex with Khmer": of the check, and of every call that begins with it
+-- 6 is of complex and 7 of Khmer alone: of the check, and of every call that begins with it
 is-complex : (parser : Parser) → isComplex parser ≡ true → (parser ≡ Complex) ⊎ (parser ≡ Khmer)
 is-complex Simple e = absurd (false≢true e)
 is-complex Myanmar e = absurd (false≢true e)

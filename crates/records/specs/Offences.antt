@@ -1,4 +1,4 @@
--- Document 01's table of refusals as a table: its lines about the whole, about each part and about each record, which of them are broken,
+-- The table of refusals (SCOPE 5.1) as a table: its lines about the whole, about each part and about each record, which of them are broken,
 -- and the order in which they are looked for. `verdict` of Refusals says how the check goes; `ByTable` says what it comes to, of the
 -- check and of every other call that refuses.
 use Prim.Native.Nat.{ℕ, zero, suc, _+_, _<_}
@@ -37,7 +37,8 @@ abbrev pub breaks : List Line → ℕ → Bool
 breaks [] number = false
 breaks (l ∷ ls) number = eqb (l .number) number && l .broken || breaks ls number
 
--- "1 and 2 come first. Then 3, 4, 6 over parts by rising index, then 3, 4, 5, 6 over records by rising index, then 7, 8, 9."
+-- "First 1 over all columns, then 2. Then the parts by rising index, each for 3, 4 and 6. Then the records by rising index, each for 3,
+-- 4, 5 and 6. Then 7, 8, 9." (SCOPE 5.3)
 pub record Table : Type 0 where
   pub before : List Line
   pub parts : ℕ
@@ -54,7 +55,8 @@ linesAt t Neither index = t .before ++ t .after
 linesAt t Part index = t .ofPart index
 linesAt t Record index = t .ofRecord index
 
--- "3 to 6 carry the index and say record or part; the others carry 0."
+-- "Refusals 3, 4, 5 and 6 name the offender: its index, and whether it is a record or a part …. The others carry the side neither and
+-- the index 0." (SCOPE 5.4)
 abbrev pub Within : Table → Side → ℕ → Type 0
 Within t Neither index = index ≡ 0
 Within t Part index = index < t .parts
@@ -72,7 +74,7 @@ stage number Neither = cond (ltb number 3) 0 3
 stage number Part = 1
 stage number Record = 2
 
--- "by rising index"; "Within one index the lower number wins."
+-- by rising index, and "of one record or part the smallest number is told" (SCOPE 5.3)
 abbrev pub Earlier : ℕ → Side → ℕ → ℕ → Side → ℕ → Type 0
 Earlier number side index number′ side′ index′ =
     (stage number side < stage number′ side′)
@@ -99,14 +101,15 @@ Carries numbers t Accepted = Unit
 Carries numbers t (Refused number side index) =
     (member numbers number ≡ true) × (member (sideNumbers side) number ≡ true) × Within t side index
 
--- all of it, of a call that can give these numbers: "Given exactly when", so that no other verdict would be right
+-- all of it, of a call that can give these numbers: where a line holds "and never otherwise" (SCOPE 5.1), so that no other verdict would
+-- be right
 pub record ByTable (numbers : List ℕ) (t : Table) (v : Verdict) : Type 0 where
   pub first : Judges (Offends t) v
   pub only : (w : Verdict) → Judges (Offends t) w → w ≡ v
   pub lower : (number : ℕ) (side : Side) (index : ℕ) → v ≡ Refused number side index → (number′ : ℕ) → number′ < number → Offends t number′ side index → ⊥
   pub carries : Carries numbers t v
 
--- "complex only", "complex with Khmer"
+-- 6 is of complex, Khmer or not, and 7 of Khmer
 pub record Asks (parser : Parser) (v : Verdict) : Type 0 where
   pub six : numberOf v ≡ 6 → (parser ≡ Complex) ⊎ (parser ≡ Khmer)
   pub seven : numberOf v ≡ 7 → parser ≡ Khmer
@@ -158,7 +161,7 @@ tableOf parser t more =
 abbrev pub wordLines : List ℕ → List ℕ → ℕ → List Line
 wordLines words pictographs i = line 4 (outside (coded (cell words i) WordBreak.len ∷ mark (cell pictographs i) ∷ [])) ∷ []
 
--- "The word run takes two columns (word class, pictograph) and checks 1, 2, 4 and 9, in that order"; 9 is the run's own
+-- the word run, "over the columns word class and pictograph alone": 1, 2, 4, 9 (SCOPE 5.5); 9 is the run's own
 abbrev pub wordTableOf : List ℕ → List ℕ → List Line → Table
 wordTableOf words pictographs more =
     record {

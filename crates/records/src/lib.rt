@@ -1,4 +1,4 @@
-// The check of a lent text: refusals 1 to 7 of document 01, in its testing order, and the word run's own check. Every call of the
+// The check of a lent text: refusals 1 to 7 (SCOPE 5.1), in their order, and the word run's own check. Every call of the
 // library begins with one of the two and hands a refusal out unchanged.
 pub mod cells;
 mod columns;

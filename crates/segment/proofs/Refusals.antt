@@ -1,4 +1,4 @@
--- The refusals of the stepping call and of the full run: each says what document 01's table says, the check's lines and its own.
+-- The refusals of the stepping call and of the full run: each says what the table of SCOPE 5.1 says, the check's lines and its own.
 -- Assumes nothing.
 use Prim.Native.Nat.{ℕ, _≤_}
 use mathlib.Core.Path.{_≡_, refl, sym, _∙_, ap}

@@ -32,7 +32,7 @@ use Rattle.segment.specs.Calls.{grammar, joins, called}
 use Rattle.segment.specs.Repeats.{repeatB, repeated, unrepeated}
 use Rattle.segment.proofs.CallTurns.{call-repeats}
 
--- a grammar without a kinzi reads no token again; Myanmar's does where document 01 says
+-- a grammar without a kinzi reads no token again; Myanmar's does where SCOPE 6.8 says
 call-again : (parser : Parser) (mode : Mode) (stream : List ℕ) (at : ℕ) → (called parser mode stream at) .again ≡ inCrate mode (repeatB parser stream at)
 unfolding called grammar
 call-again Simple mode stream at = run-again stream Simple-rules.cluster (begin (record { at = at }) mode false) simple.cluster-free ∙ sym (crate-none mode)
@@ -56,7 +56,7 @@ module _ (parser : Parser) (stream : List ℕ) (short : length stream ≤ 65535)
   abbrev inMode : Mode → Parse
   inMode mode = called parser mode stream at
 
-  -- Repeat (b): "the last token is pushed again in the same cluster, and the next place is the end".
+  -- Repeat (b): the last token is taken once more, and the call hands back the end (SCOPE 6.8).
   pub call-b : repeatB parser stream at ≡ true → (placeOf stream (inMode Crate) ≡ length stream) × Repeating stream at (clusterOf (inMode Crate)) (length stream) (tokenAt stream (length stream - 1))
   unfolding called
   call-b b = let k = call-bare parser stream at inside b in
@@ -70,7 +70,7 @@ module _ (parser : Parser) (stream : List ℕ) (short : length stream ≤ 65535)
   unfolding called
   twice b e = repeat-a stream short (grammar parser) (record { at = at }) Crate (joins parser) inside e (call-again parser Crate stream at ∙ b)
 
-  -- Repeat (a): "if a cluster has 32 and another follows, the other begins with the same token".
+  -- Repeat (a): the cluster after one of 32 begins with the token that was pushed last (SCOPE 6.7).
   pub call-a : repeatB parser stream at ≡ false → (inMode Crate) .len ≡ 32 → (placeOf stream (inMode Crate) < length stream) × Repeating stream at (clusterOf (inMode Crate)) (placeOf stream (inMode Crate)) (tokenAt stream (placeOf stream (inMode Crate)))
   call-a b l = let k = twice b (full l) in (k .1, k .2)
 

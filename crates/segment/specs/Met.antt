@@ -1,5 +1,5 @@
--- "Where an answer is an enum, a definition gives this paper's number and values for each case of the enum": what a call met. And the
--- lines of the table of refusals that are the stepping call's and the full run's own.
+-- "An enum's cases have their numbers from this document by a definition that the contracts use" (SCOPE 10): what a call met (4.4). And
+-- the lines of the table of refusals that are the stepping call's and the full run's own.
 use Prim.Native.Nat.{ℕ, _*_, _<_}
 use mathlib.Core.Path.{_≡_}
 use mathlib.Core.List.{List}
@@ -32,8 +32,8 @@ refusalIn Found = Accepted
 refusalIn Over = Accepted
 refusalIn (Bad number side index) = Refused number side index
 
--- the whole answer: before the end "the next place, the cluster, and how many tokens the call passed"; "At the end it hands back the
--- end, an empty cluster and 0"; with a refusal the place unchanged, the empty cluster and 0
+-- the whole answer: before the end the next place, the cluster and the number of tokens passed; at the end the same place, the empty
+-- cluster and 0; with a refusal the place that was given, the empty cluster and 0 (SCOPE 4.2, 5.4)
 abbrev pub Met : Segmenter → List ℕ → Answer → What → Type 0
 Met s stream a Found = (s .place .at < length stream) × (a ≡ found s stream (called (s .parser) (s .mode) stream (s .place .at)))
 Met s stream a Over = (s .place .at ≡ length stream) × (a ≡ end s)
@@ -41,10 +41,10 @@ Met s stream a (Bad number side index) = a ≡ refusal s number side index
 
 -- # The calls' own lines
 
--- 8: "the place is neither a token nor the end"
+-- 8: "the place is beyond the end"
 abbrev pub placeLine : Segmenter → Text → Line
 placeLine s t = line 8 (ltb (length (streamOf (s .mode) (s .parser) t)) (s .place .at))
 
--- 9: "the shortest output column too short", "fewer than twice as many cells as tokens"
+-- 9: "the shortest of the output columns has too few cells: in a full run fewer than 2 for each token"
 abbrev pub roomLine : Parser → Mode → Text → ℕ → Line
 roomLine parser mode t cells = line 9 (ltb cells (2 * length (streamOf mode parser t)))

@@ -39,7 +39,7 @@ vowel = take Base ▸ choose (oneOf («V» ∷ T ∷ [])) (take Base) skip
 unfoldable pub trailing : Rule
 trailing = take Base ▸ acceptAs T Base
 
--- the last three arms: "one RI a cluster"; an extension at the start is broken, and is left to the loop at the end of `parse`
+-- the last three arms: one RI to a cluster; an extension at the start is broken, and is left to the loop at the end of `parse`
 unfoldable pub other : Rule
 other = choose (is RI) (acceptAs RI Base)
     (choose isExtension (mark setBroken)

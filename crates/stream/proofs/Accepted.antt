@@ -57,7 +57,7 @@ split-most khmer s d p (suc n) i f =
       split-most khmer s d p n (i + 1) (λ k l h. f k (omega arith) (omega arith)),
     ))
 
--- "a text has up to 12,288" tokens, and up to 4,096 for simple and Myanmar
+-- a text has 12,288 tokens at most (SCOPE 2.3), and 4,096 for simple and Myanmar
 pub stream-room : (mode : Mode) (parser : Parser) (t : Text) → Sound parser t → length (streamOf mode parser t) ≤ 12288
 unfolding streamOf
 stream-room mode Simple t s = omega (arith, few Simple t s, length-records (sourceOf (t .records) (t .records .breaks) (t .records .semojis)) (length (t .records .scalars)) 0)
@@ -94,7 +94,7 @@ module _ (parser : Parser) (t : Text) (s : Sound parser t) (i : ℕ) (h : i < le
   pub myanmar-says : Says (ownToken (sourceOf (t .records) (t .records .myanmars) (t .records .memojis)) (cell (t .records .memojis) i) i) (cell (t .records .scalars) i) (cell (t .records .myanmars) i) (cell (t .records .breaks) i) (cell (t .records .categories) i) (cell (t .records .memojis) i) (cell (t .records .selectors) i) i
   myanmar-says = own-says (t .records .myanmars) (t .records .memojis) (cell (t .records .memojis) i) (omega (arith, s .rows i h .mclass)) (s .rows i h .memoji)
 
-  -- "that second token has emoji no": emoji is then 0, else the complex parser's mark
+  -- a split sign is a token "without its emoji mark": emoji is then 0, else the complex parser's mark
   pub complex-says : (emoji : ℕ) → emoji < 2 → Says (ownToken (sourceOf (t .records) (t .records .uses) (t .records .cemojis)) emoji i) (cell (t .records .scalars) i) (cell (t .records .uses) i) (cell (t .records .breaks) i) (cell (t .records .categories) i) emoji (cell (t .records .selectors) i) i
   complex-says emoji he = own-says (t .records .uses) (t .records .cemojis) emoji (omega (arith, s .rows i h .uclass)) he
 

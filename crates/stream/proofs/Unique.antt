@@ -1,4 +1,5 @@
--- "Uniqueness is shown": the contracts of the stream's functions determine their results and every lent cell. Assumes nothing.
+-- That no two results fulfil them is shown (SCOPE 10): the contracts of the stream's functions determine their results and every lent
+-- cell. Assumes nothing.
 use Prim.Native.Nat.{ℕ, _-_, min}
 use mathlib.Core.Path.{_≡_, sym, _∙_}
 use mathlib.Core.Bool.{Bool}

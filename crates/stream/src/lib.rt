@@ -40,8 +40,8 @@ pub fn fill<'s, 'a>(
     i
 }
 
-// The first of n records, from record i on, that gives a token: "a marked record with no parts is passed over in the stream". It calls
-// itself for the next record, as the last thing that it does and with thin references alone, so that the compiler makes a loop of it.
+// The first of n records, from record i on, that gives a token: a marked record with count 0 gives none. It calls itself for the
+// next record, as the last thing that it does and with thin references alone, so that the compiler makes a loop of it.
 fn fetch<'s, 'a>(n: usize, bytes: &'s [&'a [u8]; 15], i: usize) -> usize
     ensures { λ r. ⌜ r ≡ fetchIn (n - i) (column (now (bytes .entry)) 10) (column (now (bytes .entry)) 11) i ⌝ }
 {

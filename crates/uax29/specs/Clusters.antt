@@ -85,6 +85,6 @@ unfoldable pub placesFrom : (ℕ → Bool) → ℕ → ℕ → List ℕ
 placesFrom b at zero = []
 placesFrom b at (suc n) = let later = placesFrom b (at + 1) n in cond (b at) (at ∷ later) later
 
--- the places of all boundaries, but that "the boundary at the text's end is not written"
+-- the places of all boundaries, but for the one at the text's end, which does not belong to the answer (SCOPE 8.2)
 abbrev pub boundaries : List ℕ → List ℕ → List ℕ
 boundaries breaks marks = placesFrom (boundaryAt breaks marks) 0 (length breaks)

@@ -178,7 +178,7 @@ rules = toWB4 ++ map seen fromWB5
 unfoldable pub boundaryAt : List ℕ → List ℕ → ℕ → ℕ
 boundaryAt words pictographs i = cond (decide rules (beforeOf words pictographs i) (afterOf words pictographs i)) 1 0
 
--- the same of the first n records; "the boundary at the text's end is not written"
+-- the same of the first n records; the boundary at the text's end does not belong to the answer (SCOPE 8.2)
 unfoldable pub boundaries : List ℕ → List ℕ → ℕ → List ℕ
 boundaries words pictographs zero = []
 boundaries words pictographs (suc i) = boundaries words pictographs i ++ (boundaryAt words pictographs i ∷ [])

@@ -1,4 +1,4 @@
--- The refusals of the word run and of the word step: each says what document 01's table says. Assumes nothing.
+-- The refusals of the word run and of the word step: each says what the table of SCOPE 5.1 says. Assumes nothing.
 use Prim.Native.Nat.{ℕ}
 use mathlib.Core.Path.{_≡_, refl, sym, _∙_, ap}
 use mathlib.Core.Bool.{Bool, true, false}

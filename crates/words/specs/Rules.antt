@@ -18,8 +18,8 @@ use Rattle.words.specs.declared.Next.the-variants.{Class, End}
 use Rattle.words.specs.declared.Exit.{Exit}
 use Rattle.words.specs.declared.Exit.the-variants.{Begun, Released, Joined, Parted, Ignored, Held, Opened, Paired}
 
--- "the two word sets are UAX #29's AHLetter (ALetter, Hebrew_Letter) and MidNumLetQ (MidNumLet, Single_Quote)"; the Rust writes LE for
--- ALetter and MB for MidNumLet
+-- "AHLetter is ALetter and HL, MidNumLetQ is MidNumLet and SQ" (SCOPE 7.2), as in UAX #29; the Rust writes LE for ALetter and MB for
+-- MidNumLet
 abbrev pub AHLetter : List ℕ
 AHLetter = ALetter ∷ HL ∷ []
 
@@ -34,7 +34,7 @@ newlines = NL ∷ CR ∷ LF ∷ []
 abbrev pub ignorable : List ℕ
 ignorable = Extend ∷ FO ∷ ZWJ ∷ []
 
--- "The look-ahead is the next record only": `if let Some(c) = iter.clone().next()`
+-- "it looks no further ahead" (SCOPE 7.2) than to the next record: `if let Some(c) = iter.clone().next()`
 abbrev pub nextIn : List ℕ → Next → Bool
 nextIn classes (Class c) = member classes c
 nextIn classes End = false
@@ -166,7 +166,7 @@ told previous prevent count answer =
 
 -- each exit's writes: to `prev` (b unless it is put back), to `prevent_next`, to `ri_count` (`reset_state` makes it 0), and the answer
 unfoldable pub leaves : WordState → ℕ → Exit → WordStep
--- "a first record answers 1 and makes the count 1 for RI"; nothing else is written
+-- WB1: the count is 1 for RI; nothing else is written
 leaves s b Begun = told b (s .prevent) (cond (eqb b RI) 1 (s .count)) 1
 -- `prevent_next = false; return false`: the count is not reset here
 leaves s b Released = told b false (s .count) 0
