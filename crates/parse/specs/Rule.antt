@@ -64,9 +64,21 @@ run (while p a) text s = loop text (holds text p) (run a text) s
 run (part a) text s = let r = run a text s in cond (going s) (resumedOf r) s
 run (thrice c) text s = let r = thriceOf text c s in cond (going s) (retriedOf r) s
 
+-- one rule behind another; it binds more strongly than a choice
 infixr 30 _▸_
 abbrev pub _▸_ : Rule → Rule → Rule
 a ▸ b = seq a b
+
+-- a row of a choice: a rule where the test holds, and the later rows where it does not; the last row has no test, as the arm `_` of a
+-- Rust `match`
+infixr 20 _⇒_∣_
+abbrev pub _⇒_∣_ : Test → Rule → Rule → Rule
+test ⇒ rule ∣ later = choose test rule later
+
+-- the same for a class that the token decides
+infixr 20 _⇒_▹_
+abbrev pub _⇒_▹_ : Bool → Shape → Shape → Shape
+test ⇒ class ▹ later = cond test class later
 
 -- tests of the current token
 
@@ -104,7 +116,7 @@ take c = push (λ t. c)
 
 -- `accept_as`
 abbrev pub acceptAs : ℕ → Shape → Rule
-acceptAs k c = choose (is k) (take c) skip
+acceptAs k c = is k ⇒ take c ∣ skip
 
 -- `accept`
 abbrev pub accept : ℕ → Rule
