@@ -74,24 +74,34 @@ runOf f (fork p d e) text s =
     let b = runOf f e text s in
     cond (holds text p s) a b
 
+-- the rows of a tree, to be held beside those of the rule
+infixr 30 _then_
+abbrev _then_ : Rule → Tree → Tree
+rule then tree = after rule tree
+
+infixr 20 _⇒_∣_
+abbrev _⇒_∣_ : Test → Tree → Tree → Tree
+test ⇒ tree ∣ later = fork test tree later
+
+-- `standard` and its `standardTail`
 abbrev pub standardTree : Bool → Tree
 standardTree potential =
-    fork (oneOf (B ∷ GB ∷ []))
-    (after (take Base) (after (acceptAs VS Vs) (fork (isSymbolMark potential) (plain symbolMarks) place)))
-    (plain (mark setBroken ▸ byKind))
+    oneOf (B ∷ GB ∷ []) ⇒ take Base then acceptAs VS Vs then (isSymbolMark potential ⇒ plain symbolMarks ∣ place)
+    ∣ plain (mark setBroken ▸ byKind)
 
+-- `cluster` and its `letter`
 abbrev pub clusterTree : Tree
 clusterTree =
-    fork isEmoji (plain emojis)
-    (fork (is O) (plain otherArm)
-    (fork (oneOf (IND ∷ Rsv ∷ WJ ∷ [])) (plain baseVs)
-    (fork (is R) (after (take Reph) (standardTree false))
-    (fork (is CS) (after (take Other) (standardTree false))
-    (fork (is B) (standardTree false)
-    (fork (is GB) (standardTree true)
-    (fork (is N) (plain number)
-    (fork (is S) (plain symbol)
-    (standardTree false)))))))))
+    isEmoji ⇒ plain emojis
+    ∣ is O ⇒ plain otherArm
+    ∣ oneOf (IND ∷ Rsv ∷ WJ ∷ []) ⇒ plain baseVs
+    ∣ is R ⇒ take Reph then standardTree false
+    ∣ is CS ⇒ take Other then standardTree false
+    ∣ is B ⇒ standardTree false
+    ∣ is GB ⇒ standardTree true
+    ∣ is N ⇒ plain number
+    ∣ is S ⇒ plain symbol
+    ∣ standardTree false
 
 abbrev pub clusterAsRust : Bool → List ℕ → Parse → Parse
 clusterAsRust khmer = runOf (markedSyllableAsRust khmer) clusterTree
