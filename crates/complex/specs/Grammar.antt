@@ -5,12 +5,13 @@ use Prim.Native.Nat.{ℕ}
 use mathlib.Core.Bool.{Bool, true, false, cond}
 use mathlib.Core.List.{[], _∷_}
 use lib.Dec.{eqb}
+use Rattle.basics.specs.Choices.{_⇒_▹_}
 use Rattle.classes.specs.declared.Shape.{Shape}
 use Rattle.classes.specs.declared.Shape.the-variants.{Base, Halant, Reph, Vs, Zwnj, Zwj, Other, VPre as VPre-shape, VBlw as VBlw-shape, VMPre as VMPre-shape}
 use Rattle.classes.specs.UseClass.{B, CMAbv, CMBlw, CS, FAbv, FBlw, FM, FPst, GB, H, HN, IND, MAbv, MBlw, MPre, MPst, N, O, R, Rsv, S, SMAbv, SMBlw, SUB, VAbv, VBlw, VMAbv, VMBlw, VMPre, VMPst, VPre, VPst, VS, WJ, ZWJ, ZWNJ}
 use Rattle.classes.specs.Scalar.{COENG}
 use Rattle.token.specs.Token.{kindOf}
-use Rattle.parse.specs.Rule.{Rule, Test, stop, push, mark, while, _▸_, _⇒_∣_, _⇒_▹_, take, accept, acceptAs, many, manyAs, is, isScalar, isEmoji, oneOf, setBroken}
+use Rattle.parse.specs.Rule.{Rule, Test, stop, push, mark, while, _▸_, _⇒_∣_, take, accept, acceptAs, many, manyAs, is, isScalar, isEmoji, oneOf, setBroken}
 use Rattle.parse.specs.Shared.{emojis, otherArm}
 
 -- a test that is made only where the flag is set

@@ -75,11 +75,6 @@ infixr 20 _⇒_∣_
 abbrev pub _⇒_∣_ : Test → Rule → Rule → Rule
 test ⇒ rule ∣ later = choose test rule later
 
--- the same for a class that the token decides
-infixr 20 _⇒_▹_
-abbrev pub _⇒_▹_ : Bool → Shape → Shape → Shape
-test ⇒ class ▹ later = cond test class later
-
 -- tests of the current token
 
 abbrev pub is : ℕ → Test

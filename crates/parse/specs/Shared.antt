@@ -2,6 +2,7 @@
 -- for class O (myanmar.rs, complex.rs).
 use Prim.Native.Nat.{ℕ}
 use lib.Dec.{eqb}
+use Rattle.basics.specs.Choices.{_⇒_▹_}
 use Rattle.classes.specs.declared.Shape.{Shape}
 use Rattle.classes.specs.declared.Shape.the-variants.{Base, Mark, Control, Zwnj, Zwj}
 use Rattle.classes.specs.ClusterBreak.{EX, ZWJ as ZWJ-break}
@@ -10,7 +11,7 @@ use Rattle.classes.specs.Scalar.{CR, LF, ZWNJ, ZWJ, VS15, VS16}
 use Rattle.token.specs.Token.{scalarOf, categoryOf}
 use Rattle.parse.specs.declared.Emoji.the-variants.{Default, Text, Color}
 use Rattle.parse.specs.declared.Space.the-variants.{Newline}
-use Rattle.parse.specs.Rule.{Rule, skip, stop, push, note, mark, while, part, _▸_, _⇒_∣_, _⇒_▹_, take, isBreak, isScalar, isEmoji, setEmoji, setSpace, setSpaceFromChar}
+use Rattle.parse.specs.Rule.{Rule, skip, stop, push, note, mark, while, part, _▸_, _⇒_∣_, take, isBreak, isScalar, isEmoji, setEmoji, setSpace, setSpaceFromChar}
 
 -- `parse_emoji_extension`, its arm EX: U+FE0F and U+FE0E "are noted instead" (SCOPE 6.2)
 unfoldable pub emojiMark : Rule
