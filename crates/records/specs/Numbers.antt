@@ -25,9 +25,9 @@ sideCode Part = 2
 -- the refusal's number in the table, and 0 where there is none
 abbrev pub numberOf : Verdict → ℕ
 numberOf Accepted = 0
-numberOf (Refused number side index) = number
+numberOf (Refused r) = r .number
 
 -- with its values: refusal, side, index
 abbrev pub numbersOf : Verdict → List ℕ
 numbersOf Accepted = 0 ∷ 0 ∷ 0 ∷ []
-numbersOf (Refused number side index) = number ∷ sideCode side ∷ index ∷ []
+numbersOf (Refused r) = r .number ∷ sideCode (r .side) ∷ r .index ∷ []

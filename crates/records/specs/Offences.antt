@@ -10,7 +10,7 @@ use lib.Dec.{eqb, ltb}
 use lib.ListN.{length}
 use Rattle.basics.specs.Sets.{member}
 use Rattle.records.specs.Text.{Text, cell, rowOf, partOf, recordLengths, partLengths}
-use Rattle.records.specs.Refusals.{isKhmer, tooLong, uneven, badScalar, outside, partCodes, recordClasses, recordMarks, badRun, barred, badSign, coded, mark}
+use Rattle.records.specs.Refusals.{refusal, isKhmer, tooLong, uneven, badScalar, outside, partCodes, recordClasses, recordMarks, badRun, barred, badSign, coded, mark}
 use Rattle.records.specs.Numbers.{numberOf}
 use Rattle.records.specs.declared.Row.{Row}
 use Rattle.records.specs.declared.PartRow.{PartRow}
@@ -18,6 +18,7 @@ use Rattle.records.specs.declared.Side.{Side}
 use Rattle.records.specs.declared.Side.the-variants.{Record, Part, Neither}
 use Rattle.records.specs.declared.Parser.{Parser}
 use Rattle.records.specs.declared.Parser.the-variants.{Complex, Khmer}
+use Rattle.records.specs.declared.Refusal.{Refusal}
 use Rattle.records.specs.declared.Verdict.{Verdict}
 use Rattle.records.specs.declared.Verdict.the-variants.{Accepted, Refused}
 use Rattle.classes.specs.WordBreak as WordBreak
@@ -62,32 +63,33 @@ Within t Neither index = index ≡ 0
 Within t Part index = index < t .parts
 Within t Record index = index < t .records
 
--- the line of this number is broken there
-abbrev pub Offends : Table → ℕ → Side → ℕ → Type 0
-Offends t number side index = Within t side index × (breaks (linesAt t side index) number ≡ true)
+-- the line of its number is broken there
+abbrev pub Offends : Table → Refusal → Type 0
+Offends t r = Within t (r .side) (r .index) × (breaks (linesAt t (r .side) (r .index)) (r .number) ≡ true)
 
 -- # Their order
 
 -- what is about neither comes first with 1 and 2, and last with 7, 8 and 9
-abbrev pub stage : ℕ → Side → ℕ
-stage number Neither = cond (ltb number 3) 0 3
-stage number Part = 1
-stage number Record = 2
+abbrev pub stageAt : Side → ℕ → ℕ
+stageAt Neither number = cond (ltb number 3) 0 3
+stageAt Part number = 1
+stageAt Record number = 2
+
+abbrev pub stage : Refusal → ℕ
+stage r = stageAt (r .side) (r .number)
 
 -- by rising index, and "of one record or part the smallest number is told" (SCOPE 5.3)
-abbrev pub Earlier : ℕ → Side → ℕ → ℕ → Side → ℕ → Type 0
-Earlier number side index number′ side′ index′ =
-    (stage number side < stage number′ side′)
-    ⊎ ((stage number side ≡ stage number′ side′) × ((index < index′) ⊎ ((index ≡ index′) × (number < number′))))
+abbrev pub Earlier : Refusal → Refusal → Type 0
+Earlier r q =
+    (stage r < stage q)
+    ⊎ ((stage r ≡ stage q) × ((r .index < q .index) ⊎ ((r .index ≡ q .index) × (r .number < q .number))))
 
 -- # What a verdict says
 
 -- no offence, or the first one: this is one, and none comes earlier
-abbrev pub Judges : (ℕ → Side → ℕ → Type 0) → Verdict → Type 0
-Judges offends Accepted = (number : ℕ) (side : Side) (index : ℕ) → offends number side index → ⊥
-Judges offends (Refused number side index) =
-    offends number side index
-    × ((number′ : ℕ) (side′ : Side) (index′ : ℕ) → Earlier number′ side′ index′ number side index → offends number′ side′ index′ → ⊥)
+abbrev pub Judges : (Refusal → Type 0) → Verdict → Type 0
+Judges offends Accepted = (r : Refusal) → offends r → ⊥
+Judges offends (Refused r) = offends r × ((q : Refusal) → Earlier q r → offends q → ⊥)
 
 -- the numbers that go with a side: 5 is about records alone
 abbrev pub sideNumbers : Side → List ℕ
@@ -98,15 +100,15 @@ sideNumbers Record = 3 ∷ 4 ∷ 5 ∷ 6 ∷ []
 -- a refusal has one of the call's numbers, which goes with its side, and its index is of that side
 abbrev pub Carries : List ℕ → Table → Verdict → Type 0
 Carries numbers t Accepted = Unit
-Carries numbers t (Refused number side index) =
-    (member numbers number ≡ true) × (member (sideNumbers side) number ≡ true) × Within t side index
+Carries numbers t (Refused r) =
+    (member numbers (r .number) ≡ true) × (member (sideNumbers (r .side)) (r .number) ≡ true) × Within t (r .side) (r .index)
 
 -- all of it, of a call that can give these numbers: where a line holds "and never otherwise" (SCOPE 5.1), so that no other verdict would
 -- be right
 pub record ByTable (numbers : List ℕ) (t : Table) (v : Verdict) : Type 0 where
   pub first : Judges (Offends t) v
   pub only : (w : Verdict) → Judges (Offends t) w → w ≡ v
-  pub lower : (number : ℕ) (side : Side) (index : ℕ) → v ≡ Refused number side index → (number′ : ℕ) → number′ < number → Offends t number′ side index → ⊥
+  pub lower : (r : Refusal) → v ≡ Refused r → (number : ℕ) → number < r .number → Offends t (refusal number (r .side) (r .index)) → ⊥
   pub carries : Carries numbers t v
 
 -- 6 is of complex, Khmer or not, and 7 of Khmer
