@@ -29,7 +29,7 @@ use Rattle.segment.specs.declared.Segmenter.{Segmenter}
 use Rattle.segment.specs.declared.Answer.{Answer}
 use Rattle.segment.specs.Calls.{grammar, joins, called, refusal, end, found, answerIn, answerUnder, nextOf}
 use Rattle.segment.specs.Runs.{callsFrom, characters}
-use Rattle.segment.proofs.Calls.{streamed}
+use Rattle.segment.proofs.CallLaws.{streamed}
 use Rattle.segment.proofs.Progress.{progress}
 use Rattle.segment.proofs.CallTurns.{call-within, call-room, call-length}
 

@@ -1,5 +1,5 @@
 use Rattle.segment.proofs.Regulars.{direct-length}
-use Rattle.segment.proofs.Calls.{counted}
+use Rattle.segment.proofs.CallLaws.{counted}
 use Rattle.stream.proofs.Accepted.{few}
 use mathlib.Core.Path.{_∙_}
 use Rattle.records.specs.Text.{textIn}
