@@ -65,7 +65,7 @@ enum {
 
 /* The further cells of ezh_step's results. */
 enum {
-    /* EZH_WHAT_FOUND a cluster, EZH_WHAT_OVER the end, EZH_WHAT_BAD a refusal */
+    /* EZH_WHAT_FOUND a cluster, EZH_WHAT_OVER the end, EZH_WHAT_REFUSED a refusal */
     EZH_STEP_WHAT = 3,
     /* the next place; with a refusal the place that was given */
     EZH_STEP_PLACE = 4,

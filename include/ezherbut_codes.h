@@ -165,7 +165,7 @@ enum {
 enum {
     EZH_WHAT_FOUND = 0,
     EZH_WHAT_OVER = 1,
-    EZH_WHAT_BAD = 2,
+    EZH_WHAT_REFUSED = 2,
 };
 
 /* A cluster's emoji. */

@@ -163,7 +163,7 @@ pub mod side {
 pub mod what {
     pub const FOUND: u64 = 0;
     pub const OVER: u64 = 1;
-    pub const BAD: u64 = 2;
+    pub const REFUSED: u64 = 2;
 }
 
 /// A cluster's emoji.

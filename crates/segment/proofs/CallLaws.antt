@@ -13,12 +13,12 @@ use denote.Enum.Declared.{tagOf}
 use types.Run.{OneOf}
 use Rattle.classes.specs.declared.Mode.{Mode}
 use Rattle.records.specs.Text.{Text}
-use Rattle.records.specs.Refusals.{most, verdict}
+use Rattle.records.specs.Refusals.{refusal, most, verdict}
 use Rattle.records.specs.declared.Parser.{Parser}
 use Rattle.records.proofs.Parser.{the-type}
 use Rattle.records.specs.declared.Parser.the-variants.{Simple, Myanmar, Complex, Khmer}
-use Rattle.records.specs.declared.Side.{Side}
 use Rattle.records.specs.declared.Side.the-variants.{Neither}
+use Rattle.records.specs.declared.Refusal.{Refusal}
 use Rattle.records.specs.declared.Verdict.{Verdict}
 use Rattle.records.specs.declared.Verdict.the-variants.{Accepted, Refused}
 use Rattle.records.proofs.Accepted.{accepted-sound}
@@ -31,7 +31,7 @@ use Rattle.parse.specs.State.{begin}
 use Rattle.complex.specs.Grammar.{cluster}
 use Rattle.segment.specs.declared.Segmenter.{Segmenter}
 use Rattle.segment.specs.declared.Answer.{Answer}
-use Rattle.segment.specs.Calls.{grammar, joins, isKhmer, called, refusal, end, found, answerIn, Streamed, Filled, tokenCount, nextOf}
+use Rattle.segment.specs.Calls.{grammar, joins, isKhmer, called, refused, end, found, answerIn, Streamed, Filled, tokenCount, nextOf}
 
 -- a call by the rule g of a parser
 pub call-is : (parser : Parser) (mode : Mode) (stream : List ℕ) (at : ℕ) (s r : Parse) (j : Bool) (g : Rule) → grammar parser ≡ g → j ≡ joins parser → s ≡ begin (record { at = at }) mode j → r ≡ run g stream s → r ≡ called parser mode stream at
@@ -47,7 +47,7 @@ complex-is Complex h = refl
 complex-is Khmer h = refl
 
 module _ (s : Segmenter) (stream : List ℕ) where
-  pub answer-past : (r : Answer) → length stream < s .place .at → r ≡ refusal s 8 Neither 0 → r ≡ answerIn s stream
+  pub answer-past : (r : Answer) → length stream < s .place .at → r ≡ refused s (refusal 8 Neither 0) → r ≡ answerIn s stream
   unfolding answerIn
   answer-past r h e = rw (lt-ltb (length stream) (s .place .at) h) e
 
@@ -116,6 +116,6 @@ module _ (s : Segmenter) (t : Text) where
   unfolding nextOf
   next-accepted v r e h f = rw (← e, h) (f (streamed (s .mode) (s .parser) t (sym e ∙ h)))
 
-  pub next-refused : (v : Verdict) (r : Answer) (number : ℕ) (side : Side) (index : ℕ) → v ≡ verdict (s .parser) t → v ≡ Refused number side index → r ≡ refusal s number side index → r ≡ nextOf s t
+  pub next-refused : (v : Verdict) (a : Answer) (r : Refusal) → v ≡ verdict (s .parser) t → v ≡ Refused r → a ≡ refused s r → a ≡ nextOf s t
   unfolding nextOf
-  next-refused v r number side index e h f = rw (← e, h) f
+  next-refused v a r e h f = rw (← e, h) f

@@ -12,10 +12,10 @@ use borrow.Author.Tests.{ltb-true, ltb-false, eqb-true, eqb-false}
 use Rattle.basics.proofs.Tests.{if-intro, by-test}
 use Rattle.classes.specs.declared.Mode.{Mode}
 use Rattle.records.specs.Text.{Text}
-use Rattle.records.specs.Refusals.{verdict}
+use Rattle.records.specs.Refusals.{refusal, verdict}
 use Rattle.records.specs.declared.Parser.{Parser}
-use Rattle.records.specs.declared.Side.{Side}
 use Rattle.records.specs.declared.Side.the-variants.{Neither}
+use Rattle.records.specs.declared.Refusal.{Refusal}
 use Rattle.records.specs.declared.Verdict.{Verdict}
 use Rattle.records.specs.declared.Verdict.the-variants.{Accepted, Refused}
 use Rattle.stream.specs.Stream.{streamOf}
@@ -27,7 +27,7 @@ use Rattle.parse.specs.Cover.{Covers, look, pushed, repeats}
 use Rattle.parse.proofs.Conserve.{conserve}
 use Rattle.segment.specs.declared.Segmenter.{Segmenter}
 use Rattle.segment.specs.declared.Answer.{Answer}
-use Rattle.segment.specs.Calls.{grammar, joins, called, refusal, end, found, answerIn, answerUnder, nextOf}
+use Rattle.segment.specs.Calls.{grammar, joins, called, refused, end, found, answerIn, answerUnder, nextOf}
 use Rattle.segment.specs.Runs.{callsFrom, characters}
 use Rattle.segment.proofs.CallLaws.{streamed}
 use Rattle.segment.proofs.Progress.{progress}
@@ -43,13 +43,13 @@ callOf s t = called (s .parser) (s .mode) (tokens s t) (s .place .at)
 
 -- what holds of each outcome holds of the answer
 module _ (s : Segmenter) (t : Text) (P : Answer → Type 0)
-    (refused : (number : ℕ) (side : Side) (index : ℕ) → verdict (s .parser) t ≡ Refused number side index → P (refusal s number side index))
-    (past : verdict (s .parser) t ≡ Accepted → length (tokens s t) < s .place .at → P (refusal s 8 Neither 0))
+    (checked : (r : Refusal) → verdict (s .parser) t ≡ Refused r → P (refused s r))
+    (past : verdict (s .parser) t ≡ Accepted → length (tokens s t) < s .place .at → P (refused s (refusal 8 Neither 0)))
     (over : verdict (s .parser) t ≡ Accepted → s .place .at ≡ length (tokens s t) → P (end s))
     (inside : verdict (s .parser) t ≡ Accepted → s .place .at < length (tokens s t) → P (found s (tokens s t) (callOf s t))) where
   under : (v : Verdict) → verdict (s .parser) t ≡ v → P (answerUnder v s t)
   unfolding answerIn
-  under (Refused number side index) e = refused number side index e
+  under (Refused r) e = checked r e
   under Accepted e = if-intro P (ltb (length (tokens s t)) (s .place .at)) _ _ (λ h. past e (ltb-true _ _ h))
       (λ h. if-intro P (eqb (s .place .at) (length (tokens s t))) _ _ (λ k. over e (eqb-true _ _ k))
       (λ k. ⊎-elim (λ q. absurd (eqb-false (s .place .at) (length (tokens s t)) k q)) (λ q. inside e q) (eq-or-lt-of-le (ltb-false _ _ h))))

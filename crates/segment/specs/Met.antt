@@ -10,13 +10,13 @@ use Rattle.records.specs.Text.{Text}
 use Rattle.records.specs.Offences.{Line, line}
 use Rattle.records.specs.declared.Parser.{Parser}
 use Rattle.records.specs.declared.Verdict.{Verdict}
-use Rattle.records.specs.declared.Verdict.the-variants.{Accepted, Refused}
+use Rattle.records.specs.declared.Verdict.the-variants as Verdict
 use Rattle.stream.specs.Stream.{streamOf}
 use Rattle.segment.specs.declared.Segmenter.{Segmenter}
 use Rattle.segment.specs.declared.Answer.{Answer}
 use Rattle.segment.specs.declared.What.{What}
-use Rattle.segment.specs.declared.What.the-variants.{Found, Over, Bad}
-use Rattle.segment.specs.Calls.{called, refusal, end, found}
+use Rattle.segment.specs.declared.What.the-variants.{Found, Over, Refused}
+use Rattle.segment.specs.Calls.{called, refused, end, found}
 
 -- # What a call met
 
@@ -24,20 +24,20 @@ use Rattle.segment.specs.Calls.{called, refusal, end, found}
 abbrev pub whatCode : What → ℕ
 whatCode Found = 0
 whatCode Over = 1
-whatCode (Bad number side index) = 2
+whatCode (Refused r) = 2
 
 -- the refusal, with the table's number, its side and its index
 abbrev pub refusalIn : What → Verdict
-refusalIn Found = Accepted
-refusalIn Over = Accepted
-refusalIn (Bad number side index) = Refused number side index
+refusalIn Found = Verdict.Accepted
+refusalIn Over = Verdict.Accepted
+refusalIn (Refused r) = Verdict.Refused r
 
 -- the whole answer: before the end the next place, the cluster and the number of tokens passed; at the end the same place, the empty
 -- cluster and 0; with a refusal the place that was given, the empty cluster and 0 (SCOPE 4.2, 5.4)
 abbrev pub Met : Segmenter → List ℕ → Answer → What → Type 0
 Met s stream a Found = (s .place .at < length stream) × (a ≡ found s stream (called (s .parser) (s .mode) stream (s .place .at)))
 Met s stream a Over = (s .place .at ≡ length stream) × (a ≡ end s)
-Met s stream a (Bad number side index) = a ≡ refusal s number side index
+Met s stream a (Refused r) = a ≡ refused s r
 
 -- # The calls' own lines
 

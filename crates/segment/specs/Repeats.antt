@@ -16,7 +16,7 @@ use Rattle.myanmar.specs.Repeat as Myanmar-repeat
 use Rattle.segment.specs.declared.Segmenter.{Segmenter}
 use Rattle.segment.specs.declared.Answer.{Answer}
 use Rattle.segment.specs.declared.What.{What}
-use Rattle.segment.specs.declared.What.the-variants.{Found, Over, Bad}
+use Rattle.segment.specs.declared.What.the-variants.{Found, Over, Refused}
 use Rattle.segment.specs.Calls.{nextOf}
 
 -- Repeat (b): of the four parsers Myanmar alone has it, at a kinzi behind which the text ends.
@@ -39,7 +39,7 @@ unrepeated mode parser stream at c = cond (repeated mode parser stream at c) (bu
 abbrev pub whenFound : What → List Answer → List Answer
 whenFound Found later = later
 whenFound Over later = []
-whenFound (Bad number side index) later = []
+whenFound (Refused r) later = []
 
 -- the answers of the stepping calls from a state on, each from the state that the one before handed back, up to the first that finds no
 -- cluster; n at most

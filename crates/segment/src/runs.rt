@@ -13,6 +13,7 @@ use basics::shorter;
 use classes::Mode;
 use parse::Parse;
 use records::Parser;
+use records::Refusal;
 use records::Side;
 use records::Verdict;
 use records::cells::record_count;
@@ -27,15 +28,11 @@ ghost use Rattle.segment.specs.Runs.{Fits};
 ghost use Rattle.segment.specs.Standing.{Written, Known, RoomyIn, Begun, Stands, Finished, Rests, FinishedIn, RanIn};
 
 impl RunAnswer {
-    pub(crate) fn refused(number: u8, side: Side, index: usize) -> RunAnswer
-        ensures { λ r. ⌜ r ≡ record { verdict = Refused number side index; clusters = 0; characters = 0 } ⌝ }
+    pub(crate) fn refused(refusal: Refusal) -> RunAnswer
+        ensures { λ r. ⌜ r ≡ record { verdict = Refused refusal; clusters = 0; characters = 0 } ⌝ }
     {
         RunAnswer {
-            verdict: Verdict::Refused {
-                number,
-                side,
-                index,
-            },
+            verdict: Verdict::Refused(refusal),
             clusters: 0,
             characters: 0,
         }
@@ -336,7 +333,11 @@ pub(crate) fn run_accepted<'s, 'a>(
     let n = token_count(records, parser, mode, wides, bytes, firsts);
     let room = shorter(oscalars.len(), shorter(oclasses.len(), oclusters.len()));
     if room < 2 * n {
-        return RunAnswer::refused(9, Side::Neither, 0);
+        return RunAnswer::refused(Refusal {
+            number: 9,
+            side: Side::Neither,
+            index: 0,
+        });
     }
     let s = begin(
         records,
