@@ -13,7 +13,7 @@ use borrow.Author.Tests.{lt-leb, le-ltb, ltb-false}
 use Rattle.classes.specs.WordBreak as WordBreak
 use Rattle.records.specs.Text.{cell}
 use Rattle.records.specs.Refusals.{wordVerdict}
-use Rattle.records.specs.declared.Side.{Side}
+use Rattle.records.specs.declared.Refusal.{Refusal}
 use Rattle.records.specs.declared.Verdict.{Verdict}
 use Rattle.records.specs.declared.Verdict.the-variants.{Accepted, Refused}
 use Rattle.records.proofs.Unique.{unique}
@@ -125,8 +125,8 @@ module _ (words words′ pictographs pictographs′ : List ℕ) where
 
 -- The cells after a run: with a refusal as they were, else a record's cell has its answer, and a cell past the records is as it was.
 module _ (words pictographs out : List ℕ) where
-  pub refused-keeps : (number : ℕ) (side : Side) (index : ℕ) → runVerdict words pictographs (length out) ≡ Refused number side index → runCells words pictographs out ≡ out
-  refused-keeps number side index e = rw e
+  pub refused-keeps : (r : Refusal) → runVerdict words pictographs (length out) ≡ Refused r → runCells words pictographs out ≡ out
+  refused-keeps r e = rw e
 
   pub record-cell : (i : ℕ) → i < length words → runVerdict words pictographs (length out) ≡ Accepted → cell (runCells words pictographs out) i ≡ answerAt words pictographs i
   record-cell i h e =

@@ -45,7 +45,7 @@ runVerdict words pictographs cells = wordVerdict words pictographs ⊳ refuse (l
 -- "Cells after the last record stay as they were" (SCOPE 7.3), and with a refusal all of them
 abbrev pub cellsUnder : Verdict → List ℕ → List ℕ → List ℕ → List ℕ
 cellsUnder Accepted words pictographs out = answers words pictographs (length words) ++ drop (length words) out
-cellsUnder (Refused number side index) words pictographs out = out
+cellsUnder (Refused r) words pictographs out = out
 
 -- what stands in the lent column after a run
 abbrev pub runCells : List ℕ → List ℕ → List ℕ → List ℕ

@@ -39,8 +39,7 @@ stepVerdict s class pictograph next =
 -- with a refusal "the state that it was given and the answer 0" (SCOPE 5.4)
 abbrev pub stepUnder : Verdict → WordState → ℕ → ℕ → Next → WordStep
 stepUnder Accepted s class pictograph next = ruled s class pictograph next
-stepUnder (Refused number side index) s class pictograph next =
-    record { state = s; answer = 0; verdict = Refused number side index }
+stepUnder (Refused r) s class pictograph next = record { state = s; answer = 0; verdict = Refused r }
 
 abbrev pub stepOf : WordState → ℕ → ℕ → Next → WordStep
 stepOf s class pictograph next = stepUnder (stepVerdict s class pictograph next) s class pictograph next
