@@ -18,7 +18,7 @@ from dataclasses import dataclass
 ROOT = pathlib.Path(__file__).resolve().parent.parent
 # how strongly an operator binds, and whether it groups to the right
 OPERATORS = {
-    "⇒": (1, True), "▸": (2, True), "∷": (3, True), "+": (4, False), "*": (5, False), "/": (5, False), "%": (5, False)
+    "⇒": (1, True), "▸": (2, True), "||": (3, False), "∷": (4, True), "+": (5, False), "*": (6, False), "/": (6, False), "%": (6, False)
 }
 # the first sign of a row, `_⇒_∣_` or `_⇒_▹_`, and what can be its second, which says which of them it is
 ROW, SECOND_SIGNS = "⇒", ("∣", "▹")
@@ -82,6 +82,7 @@ PRIMITIVES = [
     Primitive("/", 2, lambda a, b: a // b),
     Primitive("%", 2, lambda a, b: a % b),
     Primitive("eqb", 2, lambda a, b: TRUE if a == b else FALSE),
+    Primitive("||", 2, lambda a, b: TRUE if a == TRUE else b),
     Primitive("cond", 3, lambda test, a, b: a if test == TRUE else b),
     Primitive("getD", 3, lambda xs, place, default: next(itertools.islice(items(xs), place, None), default)),
 ]
