@@ -15,7 +15,8 @@ use Rattle.classes.specs.Scalar.{CGJ}
 use Rattle.token.specs.Token.{scalarOf}
 use Rattle.parse.specs.declared.Parse.{Parse}
 use Rattle.parse.specs.declared.Pushed.{Pushed}
-use Rattle.parse.specs.State.{tokenAt, placeAfter, going, withPlace, withCells, charOf, putOf, movedOf, onJoiner, stepOf, pushOf, stepPast, lastPushed}
+use Rattle.parse.specs.State.{tokenAt, placeAfter, going, withPlace, withCells, charOf, putOf, movedOf, onJoiner, stepOf, pushOf}
+use Rattle.parse.specs.Inner.{stepPast, lastPushed}
 use Rattle.parse.proofs.Moves.{put-same, place-le, moved-case, step-over, step-stays}
 
 -- the count, turn by turn: k is the place after i, x the scalar there

@@ -2,12 +2,13 @@
 -- `filledAt`, what a step does at a cluster of 32, and `passesEnd`, what becomes of the end of the text within a kinzi.
 use Prim.Native.Nat.{ℕ, zero, suc, _+_, _-_}
 use mathlib.Core.Bool.{Bool, true, false, cond}
-use mathlib.Core.List.{List, []}
+use mathlib.Core.List.{List}
 use lib.Dec.{eqb, ltb}
 use lib.ListN.{length, set, getD, replicate}
-use denote.Ref.{RefT, now}
 use Rattle.classes.specs.declared.Shape.{Shape}
 use Rattle.classes.specs.declared.Shape.the-variants.{Base, Other}
+use Rattle.classes.specs.declared.Mode.{Mode}
+use Rattle.classes.specs.declared.Mode.the-variants.{Crate, Whole}
 use Rattle.classes.specs.Scalar.{CGJ}
 use Rattle.token.specs.Token.{scalarOf, indexOf}
 use Rattle.parse.specs.declared.Parse.{Parse}
@@ -17,8 +18,6 @@ use Rattle.parse.specs.declared.Cluster.{Cluster}
 use Rattle.parse.specs.declared.Place.{Place}
 use Rattle.parse.specs.declared.Emoji.the-variants.{None as NoEmoji}
 use Rattle.parse.specs.declared.Space.the-variants.{None as NoSpace}
-use Rattle.classes.specs.declared.Mode.{Mode}
-use Rattle.classes.specs.declared.Mode.the-variants.{Crate, Whole}
 use Rattle.parse.specs.declared.Flow.{Flow}
 use Rattle.parse.specs.declared.Flow.the-variants.{GoOn, Stop, Full, End}
 
@@ -168,20 +167,3 @@ passesEnd Crate End again = cond again false true
 -- the last token is current still, and is read again
 abbrev pub retriedOf : Parse → Parse
 retriedOf s = cond (passesEnd (s .mode) (s .flow) (s .again)) (withFlow GoOn (withAgain s)) s
-
--- What only private contracts need
-
--- a text behind a thin reference, that to an array which holds it alone
-abbrev pub held : List (RefT (List ℕ)) → List ℕ
-held texts = now (getD texts 0 (record { ptr = (0, 0); name = 0; now = [] }))
-
--- the last U+034F of those behind token i of n, as many as there is room for; token i where there is none
-unfoldable pub stepPast : ℕ → ℕ → List ℕ → ℕ → ℕ
-stepPast zero n text i = i
-stepPast (suc room) n text i =
-    let later = stepPast room n text (placeAfter n i) in
-    cond (eqb (scalarOf (tokenAt text (placeAfter n i))) CGJ) later i
-
--- the last token that is pushed where a parse's current one is
-abbrev pub lastPushed : List ℕ → Parse → ℕ
-lastPushed text s = cond (going s) (cond (s .joins) (cond (ltb (s .len) 32) (stepPast (32 - (s .len + 1)) (length text) text (s .at)) (s .at)) (s .at)) (s .at)

@@ -12,7 +12,8 @@ ghost use mathlib.Core.Path.{_≡_};
 ghost use mathlib.Core.Bool.{cond};
 ghost use lib.Dec.{ltb};
 ghost use Prim.Native.Nat.{_+_, _-_, _<_};
-ghost use Rattle.parse.specs.State.{tokenAt, placeAfter, clusterOf, placeOf, isGoing, withFlow, withInfo, filledAt, putOf, notedOf, movedOf, onJoiner, stepOf, pushOf, resumedOf, retriedOf, goOn, passesEnd, held, stepPast, lastPushed};
+ghost use Rattle.parse.specs.State.{tokenAt, placeAfter, clusterOf, placeOf, isGoing, withFlow, withInfo, filledAt, putOf, notedOf, movedOf, onJoiner, stepOf, pushOf, resumedOf, retriedOf, goOn, passesEnd};
+ghost use Rattle.parse.specs.Inner.{held, stepPast, lastPushed};
 
 pub fn token_at(text: &[u64], i: usize) -> u64
     ensures { λ r. ⌜ r ≡ tokenAt (now (text .entry)) i ⌝ }

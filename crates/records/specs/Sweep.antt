@@ -1,4 +1,4 @@
--- What the check by columns looks for: enough for no refusal but 7, and not less than the table asks.
+-- What only private contracts need. What the check by columns looks for: enough for no refusal but 7, and not less than the table asks.
 use Prim.Native.Nat.{ℕ, _+_, _<_, _≤_}
 use mathlib.Core.Path.{_≡_}
 use mathlib.Core.Bool.{Bool, true, false}

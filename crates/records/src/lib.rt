@@ -6,6 +6,7 @@ mod judge;
 mod sets;
 
 use columns::passes;
+pub use judge::is_khmer;
 pub use judge::is_outside;
 pub use judge::is_sign;
 use judge::judge_lengths;

@@ -13,7 +13,7 @@ use denote.Enum.Declared.{tagOf}
 use types.Run.{OneOf}
 use Rattle.classes.specs.declared.Mode.{Mode}
 use Rattle.records.specs.Text.{Text}
-use Rattle.records.specs.Refusals.{refusal, most, verdict}
+use Rattle.records.specs.Refusals.{refusal, most, verdict, isKhmer}
 use Rattle.records.specs.declared.Parser.{Parser}
 use Rattle.records.proofs.Parser.{the-type}
 use Rattle.records.specs.declared.Parser.the-variants.{Simple, Myanmar, Complex, Khmer}
@@ -31,7 +31,8 @@ use Rattle.parse.specs.State.{begin}
 use Rattle.complex.specs.Grammar.{cluster}
 use Rattle.segment.specs.declared.Segmenter.{Segmenter}
 use Rattle.segment.specs.declared.Answer.{Answer}
-use Rattle.segment.specs.Calls.{grammar, joins, isKhmer, called, refused, end, found, answerIn, Streamed, Filled, tokenCount, nextOf}
+use Rattle.segment.specs.Calls.{grammar, joins, called, refused, end, found, answerIn, nextOf}
+use Rattle.segment.specs.Inner.{Streamed, Filled, tokenCount}
 
 -- a call by the rule g of a parser
 pub call-is : (parser : Parser) (mode : Mode) (stream : List ℕ) (at : ℕ) (s r : Parse) (j : Bool) (g : Rule) → grammar parser ≡ g → j ≡ joins parser → s ≡ begin (record { at = at }) mode j → r ≡ run g stream s → r ≡ called parser mode stream at

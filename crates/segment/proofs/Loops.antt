@@ -21,7 +21,7 @@ use Rattle.parse.specs.Rule.{Rule, skip}
 use Rattle.tables.specs.Symbols.{indexOf, rowsOf, tableOf, cellAt, Regular}
 use Rattle.tables.proofs.Cells.{shapeAt, code-at, okay}
 use Rattle.segment.specs.Calls.{joins}
-use Rattle.segment.specs.Runs.{Roomy}
+use Rattle.segment.specs.Inner.{Roomy}
 use Rattle.segment.specs.Standing.{Running}
 use Rattle.segment.specs.Going.{started, goesOn, doneBy, givenUp, stopOf, backOf, refilled, overed, noted, written, turned, putBy, Wrote, Writable}
 use Rattle.segment.specs.declared.going.Going.{Going}

@@ -12,7 +12,8 @@ use Rattle.records.specs.declared.Verdict.the-variants.{Accepted}
 use Rattle.stream.specs.Stream.{streamOf}
 use Rattle.parse.specs.declared.Parse.{Parse}
 use Rattle.parse.specs.declared.Pushed.{Pushed}
-use Rattle.segment.specs.Runs.{callsAt, callsOf, characters, Ran, Roomy}
+use Rattle.segment.specs.Runs.{callsAt, callsOf, characters, Ran}
+use Rattle.segment.specs.Inner.{Roomy}
 use Rattle.segment.specs.Seen.{seenBy, Direct}
 use Rattle.segment.specs.Standing.{Column, Running, Stood, Ready}
 use Rattle.segment.specs.declared.RunAnswer.{RunAnswer}

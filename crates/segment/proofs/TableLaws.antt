@@ -19,7 +19,7 @@ use Rattle.parse.specs.State.{tokenAt, begin}
 use Rattle.parse.specs.Rule.{Rule, Test, skip}
 use Rattle.simple.specs.Grammar as Simple-rules
 use Rattle.segment.specs.Calls.{grammar, joins}
-use Rattle.segment.specs.Runs.{Roomy}
+use Rattle.segment.specs.Inner.{Roomy}
 use Rattle.tables.specs.Symbols.{indexOf, rowsOf, tableOf, cellAt, simpleSymbol, myanmarSymbol, emojiSymbol, useSymbol, useIndex, useRegular, Regular}
 use Rattle.tables.specs.SimpleTable.{simpleTable}
 use Rattle.tables.specs.MyanmarTable.{myanmarTable}

@@ -25,7 +25,8 @@ use Rattle.parse.specs.Cover.{pushed}
 use Rattle.parse.proofs.Loop.{loop-goes, loop-stays}
 use Rattle.parse.proofs.Moves.{hop-falls}
 use Rattle.segment.specs.Calls.{grammar, joins, called}
-use Rattle.segment.specs.Runs.{scalarIn, classIn, clusterIn, Roomy}
+use Rattle.segment.specs.Runs.{scalarIn, classIn, clusterIn}
+use Rattle.segment.specs.Inner.{Roomy}
 use Rattle.segment.proofs.Written.{sets-append}
 use Rattle.segment.specs.Standing.{Running}
 use Rattle.segment.proofs.CallTurns.{run-turn}

@@ -24,7 +24,7 @@ ghost use Rattle.records.specs.Text.{lent};
 ghost use Rattle.records.specs.Sound.{Sound};
 ghost use Rattle.records.specs.declared.Verdict.the-variants.{Accepted, Refused};
 ghost use Rattle.stream.specs.Stream.{streamOf};
-ghost use Rattle.segment.specs.Runs.{Fits};
+ghost use Rattle.segment.specs.Inner.{Fits};
 ghost use Rattle.segment.specs.Standing.{Written, Known, RoomyIn, Begun, Stands, Finished, Rests, FinishedIn, RanIn};
 
 impl RunAnswer {

@@ -16,7 +16,8 @@ use lib.Seq.{take-suc-set, drop-set-lt, drop-drop, length-take-le, take-all, tak
 use borrow.Author.Tests.{lt-ltb, le-ltb, eqb-true, eqb-false}
 use Rattle.records.specs.Text.{Text, Parts, cell}
 use Rattle.records.proofs.Passing.{not-so}
-use Rattle.stream.specs.Stream.{Source, Splits, sourceOf, ownToken, itself, split, splitIn, gather, givesNone, fetchIn, pieceCount, countFrom, Whole, Fills}
+use Rattle.stream.specs.Stream.{Source, Splits, sourceOf, ownToken, itself, split, splitIn, gather, givesNone, fetchIn, pieceCount, countFrom, Fills}
+use Rattle.stream.specs.Inner.{Whole}
 use Rattle.stream.proofs.Piece.{length-split}
 
 -- the cells from j on hold what they held when they were lent

@@ -11,7 +11,8 @@ ghost use Prim.Native.Nat.{_<_};
 ghost use Rattle.basics.specs.Sets.{member};
 ghost use Rattle.classes.specs.Scalar.{khmerSigns};
 ghost use Rattle.records.specs.Text.{lent};
-ghost use Rattle.stream.specs.Stream.{sourceOf, ownToken, partToken, pieceCount, piecesIn, givesNone, Whole, Piece};
+ghost use Rattle.stream.specs.Stream.{sourceOf, ownToken, partToken, pieceCount, givesNone};
+ghost use Rattle.stream.specs.Inner.{piecesIn, Whole, Piece};
 
 // Whether a scalar is one of the five signs that Khmer splits.
 pub fn is_split_sign(khmer: bool, x: u32) -> bool

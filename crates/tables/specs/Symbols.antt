@@ -1,6 +1,6 @@
--- The tables on numbers: a symbol for each kind of token that a grammar tells apart, a row for each rule that can be left within a
--- cluster, row 0 for the place between two clusters, and a cell for each of both: class (4 bits), what is done (2 bits), the next row.
--- No contract of the public face cites what is here.
+-- What only private contracts need. The tables on numbers: a symbol for each kind of token that a grammar tells apart, a row for each
+-- rule that can be left within a cluster, row 0 for the place between two clusters, and a cell for each of both: class (4 bits), what is
+-- done (2 bits), the next row.
 use Prim.Native.Nat.{ℕ, _+_, _*_, _<_}
 use mathlib.Core.Path.{_≡_}
 use mathlib.Core.Bool.{Bool, true, false, cond}

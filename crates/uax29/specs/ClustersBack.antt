@@ -1,4 +1,4 @@
--- For the executable form of the cluster rules: a look back past pairs.
+-- What only private contracts need. For the executable form of the cluster rules: a look back past pairs.
 use mathlib.Core.Bool.{cond, _&&_}
 use mathlib.Core.List.{List, [], _∷_}
 use Rattle.uax29.specs.Clusters.{Item, Test}

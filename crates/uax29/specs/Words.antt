@@ -1,9 +1,10 @@
 -- UAX #29 of Unicode 15.0, section 4.1.1: the rules WB1 to WB999, each under the annex's own line and in its order, so that a
 -- reviewer reads them against the annex. Written from that document, and not from the word machine.
-use Prim.Native.Nat.{ℕ, zero, suc}
+use Prim.Native.Nat.{ℕ, zero, suc, min}
+use mathlib.Core.List.{List, _++_, [], _∷_, map}
 use mathlib.Core.Bool.{Bool, false, cond, not, _&&_}
-use mathlib.Core.List.{List, [], _∷_, _++_, map}
-use Rattle.classes.specs.WordBreak.{CR, LF, NL, Extend, ZWJ, FO, WSegSpace, ALetter, HL, ML, MidNumLet, MN, NU, SQ, DQ, KA, EX, RI}
+use lib.ListN.{length, drop}
+use Rattle.classes.specs.WordBreak.{CR, LF, ZWJ, WSegSpace, HL, NU, SQ, DQ, KA, EX, RI, NL, Extend, FO, ALetter, ML, MidNumLet, MN}
 use Rattle.uax29.specs.Rules.{Item, is, isNot, among, pictographic, Rule, anything, edge, any, one, next, pairs, _÷_, _⨯_, decide, beforeOf, afterOf}
 
 -- AHLetter: (ALetter | Hebrew_Letter)
@@ -182,3 +183,9 @@ boundaryAt words pictographs i = cond (decide rules (beforeOf words pictographs 
 unfoldable pub boundaries : List ℕ → List ℕ → ℕ → List ℕ
 boundaries words pictographs zero = []
 boundaries words pictographs (suc i) = boundaries words pictographs i ++ (boundaryAt words pictographs i ∷ [])
+
+-- what stands in a lent column: the answers to as many records as there are cells for; the other cells keep their content
+abbrev pub boundaryCells : List ℕ → List ℕ → List ℕ → List ℕ
+boundaryCells words pictographs out =
+    let n = min (length words) (length out) in
+    boundaries words pictographs n ++ drop n out

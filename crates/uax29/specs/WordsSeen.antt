@@ -1,18 +1,17 @@
--- For the executable form of the word rules: what they see of the characters before a place, kept from record to record, and the rules
--- over it. Other, a class that no rule names, stands for no character.
+-- What only private contracts need. For the executable form of the word rules: what they see of the characters before a place, kept from
+-- record to record, and the rules over it. Other, a class that no rule names, stands for no character.
 use Prim.Native.Nat.{ℕ, zero, suc, _+_}
 use mathlib.Core.Bool.{Bool, true, false, cond, not, _&&_}
-use mathlib.Core.List.{List, _++_}
-use lib.Dec.{eqb, leb}
-use lib.ListN.{length, drop}
+use mathlib.Core.List.{List}
+use lib.Dec.{eqb}
 use Rattle.basics.specs.Choices.{_⇒_▹_}
 use Rattle.basics.specs.Sets.{member}
 use Rattle.classes.specs.WordBreak.{Other, CR, LF, ZWJ, WSegSpace, HL, NU, SQ, DQ, KA, EX, RI}
 use Rattle.records.specs.Text.{cell}
-use Rattle.uax29.specs.Words.{AHLetter, newlines, ignored, midLetters, midNumbers, extendable, extended, boundaries}
 use Rattle.uax29.specs.declared.words.Seen.{Seen}
 use Rattle.uax29.specs.declared.words.Set.{Set}
 use Rattle.uax29.specs.declared.words.Set.the-variants.{Only, Newlines, Ignored, Letters, MidLetters, MidNumbers, Extendable, Extended}
+use Rattle.uax29.specs.Words.{AHLetter, newlines, ignored, midLetters, midNumbers, extendable, extended}
 
 abbrev pub holds : Set → ℕ → Bool
 holds (Only class) x = eqb x class
@@ -133,12 +132,3 @@ seenAt words (suc i) = after (seenAt words i) (cell words i)
 unfoldable pub ahead : List ℕ → ℕ → ℕ → ℕ
 ahead words i zero = Other
 ahead words i (suc n) = cond (holds Ignored (cell words i)) (ahead words (i + 1) n) (cell words i)
-
-abbrev pub least : ℕ → ℕ → ℕ
-least a b = cond (leb a b) a b
-
--- what stands in a lent column: the answers to as many records as there are cells for; the other cells keep their content
-abbrev pub boundaryCells : List ℕ → List ℕ → List ℕ → List ℕ
-boundaryCells words pictographs out =
-    let n = least (length words) (length out) in
-    boundaries words pictographs n ++ drop n out

@@ -1,4 +1,5 @@
 // WB1 to WB999 of UAX #29 in one pass over two lent columns, the word classes and the marks read as Extended_Pictographic.
+use basics::shorter;
 use classes::word_break::*;
 use records::cells::cell8;
 ghost use mathlib.Core.Path.{_≡_};
@@ -9,7 +10,8 @@ ghost use lib.Dec.{eqb};
 ghost use lib.ListN.{length};
 ghost use Rattle.basics.specs.Sets.{member};
 ghost use Rattle.classes.specs.WordBreak as WordBreak;
-ghost use Rattle.uax29.specs.WordsSeen.{holds, both, fromWB3c, fromWB5, fromWB7a, fromWB8, fromWB13, fromWB15, afterWB4, decided, hasX, boundaryCells};
+ghost use Rattle.uax29.specs.WordsSeen.{holds, both, fromWB3c, fromWB5, fromWB7a, fromWB8, fromWB13, fromWB15, afterWB4, decided, hasX};
+ghost use Rattle.uax29.specs.Words.{boundaryCells};
 ghost use Rattle.uax29.specs.WordsSeen as WordsSeen;
 
 // What the rules see of the characters before a place: whether there are none, the class of the last, and, of those that WB4 leaves,
@@ -323,14 +325,6 @@ fn ahead(words: &[u8], at: usize) -> u8
     Other
 }
 
-fn least(a: usize, b: usize) -> usize
-    ensures { λ r. ⌜ r ≡ WordsSeen.least a b ⌝ }
-    ensures { λ r. ⌜ r ≤ a ⌝ }
-    ensures { λ r. ⌜ r ≤ b ⌝ }
-{
-    if a <= b { a } else { b }
-}
-
 fn bit(b: bool) -> u8
     ensures { λ r. ⌜ r ≡ cond b 1 0 ⌝ }
 {
@@ -341,7 +335,7 @@ fn bit(b: bool) -> u8
 pub fn boundaries(words: &[u8], pictographs: &[u8], out: &mut [u8])
     ensures { λ _. ⌜ now (out .exit) ≡ boundaryCells (now (words .entry)) (now (pictographs .entry)) (now (out .entry)) ⌝ }
 {
-    let n = least(words.len(), out.len());
+    let n = shorter(words.len(), out.len());
     let mut seen = Seen::NOTHING;
     let mut i: usize = 0;
     while i < n {

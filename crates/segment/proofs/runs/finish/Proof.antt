@@ -3,7 +3,7 @@ use native.Mathlib.Omega.{arith}
 use mathlib.Core.List.{List}
 use mathlib.Core.Path.{_∙_, sym}
 use lib.ListN.{length}
-use Rattle.segment.specs.Runs.{Roomy}
+use Rattle.segment.specs.Inner.{Roomy}
 use Rattle.segment.specs.Standing.{Running, Stood}
 use Rattle.segment.proofs.CallTurns.{run-fits, run-turn, run-falls, run-over}
 use borrow.Author.Needs.{needs}

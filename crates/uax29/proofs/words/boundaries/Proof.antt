@@ -16,8 +16,8 @@ Inv-loop words pictographs out₀ n seen₀ i₀ out seen i =
 abbrev μ-loop : tie.MeasureT-loop
 μ-loop words pictographs out₀ n seen₀ i₀ out seen i = n - i
 
-least-requires : tie.Need-least-requires Inv-loop μ-loop
-least-requires c κs = search needs
+shorter-requires : tie.Need-shorter-requires Inv-loop μ-loop
+shorter-requires c κs = search needs
 
 loop-holds : tie.Need-loop-holds Inv-loop μ-loop
 loop-holds c = unfold seenAt boundaries in (omega arith, (refl, (refl, refl)))
@@ -59,7 +59,7 @@ same-length : tie.Need-same-length Inv-loop μ-loop
 same-length c = search needs
 
 returns : tie.Need-returns Inv-loop μ-loop
-returns c = let e : c .before .loop .i ≡ c .before .before .least .result = omega arith in rw (← c .before .before .least .ensures .0, ← e) (c .before .loop .inv .1 .1 .1)
+returns c = let e : c .before .loop .i ≡ c .before .before .shorter .result = omega arith in rw (← c .before .before .shorter .ensures, ← e) (c .before .loop .inv .1 .1 .1)
 
 pub boundaries-spec : {M : Type 1} → statement M
 boundaries-spec =
@@ -67,7 +67,7 @@ boundaries-spec =
     (tie.spec
     Inv-loop
     μ-loop
-    least-requires
+    shorter-requires
     loop-holds
     cell8-requires
     cell8-requires-2
