@@ -8,7 +8,7 @@ use Rattle.classes.specs.declared.Mode.{Mode}
 use Rattle.records.specs.declared.Parser.{Parser}
 use Rattle.records.specs.declared.Parser.the-variants.{Simple, Myanmar, Complex, Khmer}
 use Rattle.records.specs.Text.{Text}
-use Rattle.stream.specs.Stream.{streamOf, countIn}
+use Rattle.stream.specs.Stream.{streamOf, countIn, mostTokens}
 use Rattle.parse.specs.declared.Parse.{Parse}
 use Rattle.segment.specs.declared.RunAnswer.{RunAnswer}
 use Rattle.segment.specs.declared.Segmenter.{Segmenter}
@@ -19,7 +19,7 @@ use Rattle.segment.specs.Runs.{callsOf, shortest, roomFor, Ran}
 -- a text whose tokens fit the arrays of a call, as every accepted one does
 pub record Streamed (mode : Mode) (parser : Parser) (t : Text) : Type 0 where
   pub few : length (t .records .scalars) ≤ 4096
-  pub room : length (streamOf mode parser t) ≤ 12288
+  pub room : length (streamOf mode parser t) ≤ mostTokens
 
 -- the first n cells are the stream's, as many as there is room for
 pub record Filled (stream : List ℕ) (room n : ℕ) (cells : List ℕ) : Type 0 where
@@ -60,7 +60,7 @@ pub record Fits (p : Parse) (at : ℕ) (scalars classes clusters : List ℕ) : T
 
 -- the room that a run needs
 pub record Roomy (stream scalars classes clusters : List ℕ) : Type 0 where
-  pub short : length stream ≤ 12288
+  pub short : length stream ≤ mostTokens
   pub scalar : 2 * length stream ≤ length scalars
   pub class : 2 * length stream ≤ length classes
   pub cluster : 2 * length stream ≤ length clusters

@@ -17,13 +17,14 @@ use records::Refusal;
 use records::Side;
 use records::Verdict;
 use records::cells::record_count;
+use stream::MOST_TOKENS;
 ghost use mathlib.Core.Path.{_≡_};
 ghost use Prim.Native.Nat.{_≤_};
 ghost use lib.ListN.{length};
 ghost use Rattle.records.specs.Text.{lent};
 ghost use Rattle.records.specs.Sound.{Sound};
 ghost use Rattle.records.specs.declared.Verdict.the-variants.{Accepted, Refused};
-ghost use Rattle.stream.specs.Stream.{streamOf};
+ghost use Rattle.stream.specs.Stream.{streamOf, mostTokens};
 ghost use Rattle.segment.specs.Inner.{Fits};
 ghost use Rattle.segment.specs.Standing.{Written, Known, RoomyIn, Begun, Stands, Finished, Rests, FinishedIn, RanIn};
 
@@ -146,10 +147,10 @@ fn run_long<'s, 'a>(
     oclasses: &mut [u8],
     oclusters: &mut [u16],
 ) -> RunAnswer
-    requires { ⌜ Rests parser mode (lent wides bytes firsts) 12288 oscalars oclasses oclusters from ⌝ }
+    requires { ⌜ Rests parser mode (lent wides bytes firsts) mostTokens oscalars oclasses oclusters from ⌝ }
     ensures { λ r. ⌜ FinishedIn parser mode (lent (wides .entry) (bytes .entry) (firsts .entry)) from oscalars oclasses oclusters r ⌝ }
 {
-    let mut long = [0u64; 12288];
+    let mut long = [0u64; MOST_TOKENS];
     run_within(
         parser,
         mode,
@@ -178,7 +179,7 @@ fn run_middle<'s, 'a>(
     requires { ⌜ Rests parser mode (lent wides bytes firsts) 2048 oscalars oclasses oclusters from ⌝ }
     ensures { λ r. ⌜ FinishedIn parser mode (lent (wides .entry) (bytes .entry) (firsts .entry)) from oscalars oclasses oclusters r ⌝ }
 {
-    let mut middle = [0u64; 2048];
+    let mut middle = [0u64; MIDDLE];
     run_within(
         parser,
         mode,
@@ -208,7 +209,7 @@ fn run_array<'s, 'a>(
     oclasses: &mut [u8],
     oclusters: &mut [u16],
 ) -> RunAnswer
-    requires { ⌜ (n ≤ 12288) × Rests parser mode (lent wides bytes firsts) n oscalars oclasses oclusters from ⌝ }
+    requires { ⌜ (n ≤ mostTokens) × Rests parser mode (lent wides bytes firsts) n oscalars oclasses oclusters from ⌝ }
     ensures { λ r. ⌜ FinishedIn parser mode (lent (wides .entry) (bytes .entry) (firsts .entry)) from oscalars oclasses oclusters r ⌝ }
 {
     if cells < n {
@@ -252,7 +253,7 @@ fn run_array<'s, 'a>(
             oclusters,
         );
     }
-    let mut short = [0u64; 256];
+    let mut short = [0u64; SHORT];
     run_within(
         parser,
         mode,

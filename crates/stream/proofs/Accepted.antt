@@ -20,7 +20,7 @@ use Rattle.records.specs.Refusals.{badScalar, most, tooLong}
 use Rattle.records.specs.Sound.{Sound}
 use Rattle.records.specs.declared.Parser.{Parser}
 use Rattle.records.specs.declared.Parser.the-variants.{Simple, Myanmar, Complex, Khmer}
-use Rattle.stream.specs.Stream.{Source, Splits, sourceOf, splitsOf, ownToken, partToken, partTokens, itself, split, gather, gives, streamOf, pieceCount, countFrom}
+use Rattle.stream.specs.Stream.{Source, Splits, sourceOf, splitsOf, ownToken, partToken, partTokens, itself, split, gather, gives, streamOf, pieceCount, countFrom, mostTokens}
 use Rattle.stream.proofs.Piece.{length-split}
 use Rattle.stream.proofs.Stream.{count-stream, length-records}
 
@@ -57,8 +57,8 @@ split-most khmer s d p (suc n) i f =
       split-most khmer s d p n (i + 1) (λ k l h. f k (omega arith) (omega arith)),
     ))
 
--- a text has 12,288 tokens at most (SCOPE 2.3), and 4,096 for simple and Myanmar
-pub stream-room : (mode : Mode) (parser : Parser) (t : Text) → Sound parser t → length (streamOf mode parser t) ≤ 12288
+-- what the arrays of a call have room for
+pub stream-room : (mode : Mode) (parser : Parser) (t : Text) → Sound parser t → length (streamOf mode parser t) ≤ mostTokens
 unfolding streamOf
 stream-room mode Simple t s = omega (arith, few Simple t s, length-records (sourceOf (t .records) (t .records .breaks) (t .records .semojis)) (length (t .records .scalars)) 0)
 stream-room mode Myanmar t s = omega (arith, few Myanmar t s, length-records (sourceOf (t .records) (t .records .myanmars) (t .records .memojis)) (length (t .records .scalars)) 0)

@@ -16,6 +16,9 @@ ghost use Prim.Native.Nat.{_-_, min};
 ghost use Rattle.records.specs.Text.{column, lent};
 ghost use Rattle.stream.specs.Stream.{recordTokens, splitTokens, Fills, fetchIn, countIn};
 
+// The most tokens of an accepted text: three of each record.
+pub const MOST_TOKENS: usize = 12288;
+
 // The tokens of the simple or the Myanmar parser, with these classes and emoji marks, as many as there is room for: each record is
 // one. Cells past them keep their content.
 pub fn fill<'s, 'a>(
