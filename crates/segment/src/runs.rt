@@ -29,7 +29,8 @@ ghost use Rattle.segment.specs.Inner.{Fits};
 ghost use Rattle.segment.specs.Standing.{Written, Known, RoomyIn, Begun, Stands, Finished, Rests, FinishedIn, RanIn};
 
 impl RunAnswer {
-    pub(crate) fn refused(refusal: Refusal) -> RunAnswer
+    // The answer of a run that refuses: nothing is written.
+    pub fn refused(refusal: Refusal) -> RunAnswer
         ensures { λ r. ⌜ r ≡ record { verdict = Refused refusal; clusters = 0; characters = 0 } ⌝ }
     {
         RunAnswer {
