@@ -33,7 +33,8 @@ use Rattle.exports.specs.declared.Request.{Request}
 use Rattle.exports.specs.declared.Request.the-variants.{Known, Unknown}
 use Rattle.exports.specs.Requests.{requestOf, unlisted}
 use Rattle.exports.specs.Results.{written, tight, Told}
-use Rattle.exports.specs.Steps.{refusedAt, handedUnder, taken, stepFor, stepOf, stepNumbers, laid, Fits, Stepped, shortestOf, SteppedFor}
+use Rattle.exports.specs.Steps.{refusedAt, handedUnder, taken, stepFor, stepOf, stepNumbers, laid, Stepped, shortestOf, SteppedFor}
+use Rattle.exports.specs.Inner.{Fits}
 use Rattle.exports.proofs.Refusals.{Numbered, told-by, told-tight}
 
 -- the columns have room for a cluster, or not
