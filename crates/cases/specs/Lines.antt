@@ -15,7 +15,6 @@ use Rattle.cases.specs.declared.lines.Line.{Line}
 use Rattle.cases.specs.declared.lines.Line.the-variants.{Skipped, NotOfLayout, Text, Words, Step}
 use Rattle.cases.specs.declared.lines.Asked.{Asked}
 use Rattle.cases.specs.declared.lines.Asked.the-variants.{Of, Nobody}
-use Rattle.cases.specs.declared.items.Kind.{Kind}
 use Rattle.cases.specs.declared.items.Kind.the-variants.{Record, Part, Word, State}
 use Rattle.cases.specs.declared.numbers.Number.{Number}
 use Rattle.cases.specs.declared.numbers.Number.the-variants.{Value, Nothing}

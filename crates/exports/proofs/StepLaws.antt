@@ -9,7 +9,6 @@ use lib.Dec.{ltb}
 use lib.ListN.{length, take, set, getD, length-map, length-take}
 use lib.Seq.{length-take-le}
 use borrow.Author.Tests.{lt-ltb, le-ltb, ltb-false}
-use Rattle.basics.proofs.Tests.{if-intro}
 use Rattle.classes.specs.declared.Mode.{Mode}
 use Rattle.records.specs.Text.{Text}
 use Rattle.records.specs.Refusals.{refusal, refuse, _⊳_}

@@ -25,7 +25,7 @@ use Rattle.parse.specs.declared.Flow.the-variants.{GoOn}
 use Rattle.parse.specs.declared.Space.the-variants.{Newline}
 use Rattle.parse.specs.declared.Emoji.the-variants.{Default, Text, Color}
 use Rattle.parse.specs.State.{tokenAt, begin}
-use Rattle.parse.specs.Rule.{Rule, skip, stop, note, mark, seq, choose, while, part, run, take, manyAs, acceptAs, is, isBreak, isScalar, isEmoji, isSelector, oneOf, setBroken, setEmoji, setSpace, setSpaceFromChar, forceNormalize}
+use Rattle.parse.specs.Rule.{skip, stop, note, mark, seq, choose, while, part, run, take, manyAs, acceptAs, is, isBreak, isScalar, isEmoji, isSelector, oneOf, setBroken, setEmoji, setSpace, setSpaceFromChar, forceNormalize}
 use Rattle.parse.specs.Rule as Parse-rule
 use Rattle.parse.specs.Shared.{emojiMark, emojiExtension, emojiTurn, emojis, newline}
 use Rattle.simple.specs.Grammar.{cluster, start, control, syllable, other, isExtension, extension, extend, combining}

@@ -1,8 +1,8 @@
 // Reading the columns: a cell past the end is 0, so that no reader asks anything of its caller.
 ghost use mathlib.Core.Path.{_≡_};
-ghost use mathlib.Core.Bool.{cond, _||_};
+ghost use mathlib.Core.Bool.{cond};
 ghost use lib.Bits.{bitOr};
-ghost use lib.Dec.{leb, ltb};
+ghost use lib.Dec.{ltb};
 ghost use lib.ListN.{length, take};
 ghost use Prim.Native.Nat.{_<_};
 ghost use Rattle.basics.specs.Sets.{any, member};

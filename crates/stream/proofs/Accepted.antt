@@ -1,26 +1,24 @@
 -- The stream of an accepted text: how long it can be, that the count is its length, and that its tokens say what the lent cells say.
 -- Assumes nothing.
 use Prim.Native.Nat.{ℕ, zero, suc, _+_, _-_, _*_, _<_, _≤_, min}
-use mathlib.Core.Path.{_≡_, refl, sym, _∙_, ap}
+use mathlib.Core.Path.{_≡_, refl, sym}
 use mathlib.Core.Bool.{Bool, true, false, cond, _&&_, _||_}
-use mathlib.Core.List.{List, [], _∷_, _++_}
-use mathlib.Core.Logic.{⊎-elim}
-use native.Mathlib.Nat.{eq-or-lt-of-le}
+use mathlib.Core.List.{List, _∷_}
 use native.Mathlib.Omega.{arith}
 use lib.Dec.{eqb, leb, ltb}
 use lib.ListN.{length, drop, length-append}
-use borrow.Author.Tests.{eqb-true, ltb-false}
+use borrow.Author.Tests.{ltb-false}
 use Rattle.basics.specs.Sets.{any, member}
 use Rattle.classes.specs.Scalar.{khmerSigns}
 use Rattle.classes.specs.declared.Mode.{Mode}
 use Rattle.token.specs.Token.{packed}
 use Rattle.token.proofs.Fields.{Says, packed-says}
-use Rattle.records.specs.Text.{Records, Parts, Text, cell, rowOf, recordLengths}
-use Rattle.records.specs.Refusals.{badScalar, most, tooLong}
+use Rattle.records.specs.Text.{Parts, Text, cell, recordLengths}
+use Rattle.records.specs.Refusals.{badScalar, most}
 use Rattle.records.specs.Sound.{Sound}
 use Rattle.records.specs.declared.Parser.{Parser}
 use Rattle.records.specs.declared.Parser.the-variants.{Simple, Myanmar, Complex, Khmer}
-use Rattle.stream.specs.Stream.{Source, Splits, sourceOf, splitsOf, ownToken, partToken, partTokens, itself, split, gather, gives, streamOf, pieceCount, countFrom, mostTokens}
+use Rattle.stream.specs.Stream.{Source, Splits, sourceOf, splitsOf, ownToken, partToken, split, gather, streamOf, pieceCount, countFrom, mostTokens}
 use Rattle.stream.proofs.Piece.{length-split}
 use Rattle.stream.proofs.Stream.{count-stream, length-records}
 

@@ -6,7 +6,7 @@ ghost use mathlib.Core.Path.{_≡_};
 ghost use mathlib.Core.List.{[], _∷_};
 ghost use lib.ListN.{drop};
 ghost use Rattle.classes.specs.ClusterBreak as ClusterBreak;
-ghost use Rattle.uax29.specs.Clusters.{is, isNot, among, pictographic, edge, one, next, many, pairs, rules, applies, decide, beforeOf, afterOf, boundaryAt, GB1, GB2, GB3, GB4, GB5, GB6, GB7, GB8, GB9, GB9a, GB9b, GB11, GB12, GB13, GB999};
+ghost use Rattle.uax29.specs.Clusters.{is, isNot, among, pictographic, edge, one, next, many, pairs, rules, applies, decide, beforeOf, afterOf, boundaryAt, GB1, GB2, GB3, GB4, GB5, GB6, GB7, GB8, GB9, GB9a, GB9b, GB11, GB12, GB13};
 ghost use Rattle.uax29.specs.ClustersBack.{beyond};
 
 // Whether a boundary stands at a place: the first rule that applies decides.

@@ -7,7 +7,6 @@ use records::Side;
 use records::Verdict;
 use records::is_outside;
 ghost use mathlib.Core.Path.{_≡_};
-ghost use Rattle.classes.specs.WordBreak as WordBreak;
 ghost use Rattle.records.specs.Refusals.{outside};
 ghost use Rattle.words.specs.Step.{nextCodes, badRecord, badState, stepVerdict};
 

@@ -1,6 +1,5 @@
 use Rattle.cases.proofs.Asks.{asks}
 use Rattle.cases.specs.Lines.{stepLine}
-use mathlib.Core.Path.{refl}
 use borrow.Author.Needs.{needs}
 use Rattle.cases.proofs.lines.step_line.Statement.{statement}
 use Rattle.cases.proofs.lines.step_line.Tie as tie

@@ -1,6 +1,5 @@
 use Rattle.cases.proofs.Asks.{asks}
 use Rattle.cases.specs.Lines.{moded}
-use mathlib.Core.Path.{refl}
 use borrow.Author.Needs.{needs}
 use Rattle.cases.proofs.lines.text_moded.Statement.{statement}
 use Rattle.cases.proofs.lines.text_moded.Tie as tie

@@ -1,6 +1,5 @@
 use Rattle.cases.proofs.Splits.{end-here, end-pass, end-over}
 use Rattle.cases.specs.Parts.{before}
-use native.Mathlib.Omega.{arith}
 use lib.ListN.{length, drop}
 use mathlib.Core.Path.{_≡_, refl}
 use Prim.Native.Nat.{_+_, _-_}

@@ -1,6 +1,5 @@
 use Rattle.basics.proofs.Choices.{choices}
 use Rattle.cases.specs.Parts.{sign}
-use mathlib.Core.Path.{refl}
 use borrow.Author.Needs.{needs}
 use Rattle.cases.proofs.parts.sign.Statement.{statement}
 use Rattle.cases.proofs.parts.sign.Tie as tie
