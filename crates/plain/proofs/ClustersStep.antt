@@ -85,4 +85,4 @@ module _ (mode : Mode) (t : Text) (accepted : verdict Simple t ≡ Accepted) (pl
   step-plain =
       let size : length stream ≡ length breaks = stream-length mode t accepted in
       next-case (at Simple mode place) t (λ (a : Answer). Leads breaks marks place ((a .state) .place .at))
-      (λ n d j e. absurd (let z : _≡_ {A = ℕ} 0 1 = cc in omega arith)) (λ e l. absurd (omega arith)) (λ e l. absurd (omega arith)) (λ e l. leads)
+      (λ r e. absurd (let z : _≡_ {A = ℕ} 0 1 = cc in omega arith)) (λ e l. absurd (omega arith)) (λ e l. absurd (omega arith)) (λ e l. leads)

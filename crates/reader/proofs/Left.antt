@@ -5,7 +5,7 @@ use mathlib.Core.Path.{_≡_, sym, ap, _∙_}
 use mathlib.Core.Bool.{Bool, true, cond}
 use lib.ListN.{length}
 use Rattle.records.specs.Text.{Text}
-use Rattle.segment.specs.Calls.{nextOf, refusal, end, found}
+use Rattle.segment.specs.Calls.{nextOf, refused, end, found}
 use Rattle.segment.specs.declared.Answer.{Answer}
 use Rattle.segment.specs.declared.Segmenter.{Segmenter}
 use Rattle.segment.specs.declared.What.the-variants.{Found}
@@ -16,9 +16,9 @@ abbrev pub left : Segmenter → Text → ℕ
 left s t = length (tokens s t) - s .place .at
 
 pub fewer : (s : Segmenter) (t : Text) → (nextOf s t) .what ≡ Found → left ((nextOf s t) .state) t < left s t
-unfolding refusal end found
+unfolding refused end found
 fewer s t = next-case s t (λ a. a .what ≡ Found → left (a .state) t < left s t)
-    (λ n d i e h. absurd (let z : _≡_ {A = ℕ} 0 1 = cc in omega arith)) (λ e l h. absurd (let z : _≡_ {A = ℕ} 0 1 = cc in omega arith)) (λ e l h. absurd (let z : _≡_ {A = ℕ} 0 1 = cc in omega arith))
+    (λ r e h. absurd (let z : _≡_ {A = ℕ} 0 1 = cc in omega arith)) (λ e l h. absurd (let z : _≡_ {A = ℕ} 0 1 = cc in omega arith)) (λ e l h. absurd (let z : _≡_ {A = ℕ} 0 1 = cc in omega arith))
     (λ e l h. omega (arith, progress (s .parser) (s .mode) (tokens s t) (accepted-short (s .mode) (s .parser) t e) (s .place .at) l))
 
 -- the turns that a loop has left, which goes on as long as clusters are found
