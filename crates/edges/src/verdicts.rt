@@ -28,16 +28,13 @@ fn side(s: Side) {
 pub(crate) fn verdict(v: Verdict) {
     match v {
         Verdict::Accepted => write(b" ok"),
-        Verdict::Refused {
-            number,
-            side: s,
-            index,
-        } => {
+        Verdict::Refused(refusal) => {
+            let about = refusal.side;
             write(b" R ");
-            decimal(number as u64);
+            decimal(refusal.number as u64);
             write(b" ");
-            decimal(index as u64);
-            side(s);
+            decimal(refusal.index as u64);
+            side(about);
         }
     }
 }
@@ -46,11 +43,7 @@ pub(crate) fn verdict(v: Verdict) {
 pub(crate) fn sign(v: Verdict) {
     match v {
         Verdict::Accepted => write(b"."),
-        Verdict::Refused {
-            number,
-            side: _,
-            index: _,
-        } => decimal(number as u64),
+        Verdict::Refused(refusal) => decimal(refusal.number as u64),
     }
 }
 

@@ -24,7 +24,7 @@ joined parser kind class = textFor parser (sign 0x1780 B ∷ sign 0x17C9 kind �
 -- for each class that refusal 6 bars, the text is refused at its U+034F, and its tokens are those of `needed`
 abbrev Barred : Parser → ℕ → Type 0
 Barred parser kind =
-    (map (λ class. Refusals.verdict parser (joined parser kind class)) Refusals.barredClasses ≡ map (λ _. Refused 6 Record 2) Refusals.barredClasses)
+    (map (λ class. Refusals.verdict parser (joined parser kind class)) Refusals.barredClasses ≡ map (λ _. Refused (Refusals.refusal 6 Record 2)) Refusals.barredClasses)
     × (map (λ class. Tokens.streamOf Crate parser (joined parser kind class)) Refusals.barredClasses ≡ map (barredText kind) Refusals.barredClasses)
 
 pub barred : (Barred Complex CMAbv × Barred Complex CMBlw) × (Barred Khmer CMAbv × Barred Khmer CMBlw)

@@ -28,7 +28,7 @@ use Rattle.segment.specs.Calls.{nextOf}
 use Rattle.segment.specs.declared.Answer.{Answer}
 use Rattle.segment.specs.declared.Segmenter.{Segmenter}
 use Rattle.segment.specs.declared.What.{What}
-use Rattle.segment.specs.declared.What.the-variants.{Found, Over, Bad}
+use Rattle.segment.specs.declared.What.the-variants.{Found, Over, Refused}
 use Rattle.words.specs.Run.{runCells}
 
 -- what a case says of a record: its scalar, its class for the parser of the case, whether it is an emoji, its count of parts
@@ -86,7 +86,7 @@ standing parser mode at = record { parser = parser; mode = mode; place = record 
 abbrev pub further : What → List Answer → List Answer
 further Found later = later
 further Over later = []
-further (Bad number side index) later = []
+further (Refused r) later = []
 
 -- the answers of the stepping calls, each from the state that the one before handed back
 unfoldable pub stepping : ℕ → Segmenter → Text → List Answer

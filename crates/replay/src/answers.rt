@@ -36,11 +36,7 @@ fn word_run(to: &mut Buffer, at: usize, line: &[u8], size: u32, records: usize) 
     let verdict = words::run(&classes[..n], &pictographs[..m], &mut answers[..k]);
     match verdict {
         Verdict::Accepted => cells(to, at, &answers, n),
-        Verdict::Refused {
-            number,
-            side: s,
-            index,
-        } => refusal(to, at, number, s, index),
+        Verdict::Refused(r) => refusal(to, at, r),
     }
 }
 
@@ -67,12 +63,8 @@ fn word_step(to: &mut Buffer, at: usize, step: WordStep) -> usize {
         Verdict::Accepted => {
             end = out::decimal(to, end, step.answer as u64);
         }
-        Verdict::Refused {
-            number,
-            side: s,
-            index,
-        } => {
-            end = refusal(to, end, number, s, index);
+        Verdict::Refused(r) => {
+            end = refusal(to, end, r);
         }
     }
     end = out::put(to, end, b';');

@@ -86,12 +86,8 @@ fn steps<'s, 'a>(
 ) -> usize {
     let answer = s.next_in(wides, bytes, firsts);
     let what = answer.what;
-    if let What::Bad {
-        number,
-        side,
-        index,
-    } = what {
-        return refusal(to, at, number, side, index);
+    if let What::Refused(r) = what {
+        return refusal(to, at, r);
     }
     let parser = s.parser;
     let n = token_count(parser, wides, bytes, firsts);
@@ -127,12 +123,8 @@ fn written(
 // "CLUSTERS PUSHED|", or the refusal.
 fn ran(to: &mut Buffer, at: usize, answer: RunAnswer) -> usize {
     let verdict = answer.verdict;
-    if let Verdict::Refused {
-        number,
-        side,
-        index,
-    } = verdict {
-        return refusal(to, at, number, side, index);
+    if let Verdict::Refused(r) = verdict {
+        return refusal(to, at, r);
     }
     let mut end = out::decimal(to, at, answer.clusters as u64);
     end = out::put(to, end, b' ');
