@@ -3,8 +3,8 @@
 // other line it is `?`.
 use cases::Kind;
 use cases::Number;
+use console::write;
 use libc::STDIN_FILENO;
-use libc::STDOUT_FILENO;
 
 // More than a line of the files has.
 type Cells = [u8; 64];
@@ -40,12 +40,12 @@ fn print(bits: &Cells, n: usize) {
 // n bytes and one more.
 fn write_first(text: &[u8], n: usize) {
     if n < text.len() {
-        io::write_all(STDOUT_FILENO, &text[..n + 1]);
+        write(&text[..n + 1]);
     }
 }
 
 fn not_of_layout() {
-    io::write_all(STDOUT_FILENO, b"?\n");
+    write(b"?\n");
 }
 
 fn answer_items(kind: u8, section: &[u8], items: usize) {

@@ -23,7 +23,7 @@ use Rattle.cases.specs.declared.numbers.Number.{Number}
 use Rattle.cases.specs.declared.numbers.Number.the-variants.{Value, Nothing}
 use Rattle.cases.specs.Items.{itemsOf, isItem, fieldOf}
 use Rattle.cases.specs.Lines.{skipped, askedOf, textIn, moded, textLine, wordsLine, stateOf, stepTo, nextLine, kindLine, lineOf}
-use Rattle.cases.specs.Numbers.{numberOf}
+use Rattle.cases.specs.Numbers.{numberOf, most16}
 use Rattle.cases.specs.Parts.{part, count, equal, sign}
 
 -- what a call says of a part, said of the line
@@ -53,7 +53,7 @@ module _ (xs : List ℕ) (n : ℕ) (e : n ≡ count 32 xs) where
   skipped-sign h x f = rw (← e, ne-eqb n _ h, f)
 
 -- a text line
-module _ (parser : Parser) (mode : Mode) (full : Bool) (xs p : List ℕ) (n : Number) (fp : p ≡ part 59 3 xs) (en : n ≡ numberOf 10 65535 p) where
+module _ (parser : Parser) (mode : Mode) (full : Bool) (xs p : List ℕ) (n : Number) (fp : p ≡ part 59 3 xs) (en : n ≡ numberOf 10 most16 p) where
   pub text-no-number : n ≡ Nothing → NotOfLayout ≡ textIn parser mode full xs
   unfolding textIn
   text-no-number h = rw (← fp, ← en, h)
@@ -84,7 +84,7 @@ module _ (kind : ℕ) (xs p : List ℕ) (s : ℕ) (fp : p ≡ part 59 2 xs) (es 
   text-nobody h = rw (← fp, ← es, ← ea, h)
 
 -- a word run
-module _ (xs p : List ℕ) (n : Number) (fp : p ≡ part 59 1 xs) (en : n ≡ numberOf 10 65535 p) where
+module _ (xs p : List ℕ) (n : Number) (fp : p ≡ part 59 1 xs) (en : n ≡ numberOf 10 most16 p) where
   pub words-no-number : n ≡ Nothing → NotOfLayout ≡ wordsLine xs
   unfolding wordsLine
   words-no-number h = rw (← fp, ← en, h)

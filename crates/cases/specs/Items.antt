@@ -4,12 +4,13 @@ use mathlib.Core.Bool.{Bool, cond, _&&_}
 use mathlib.Core.List.{List, [], _∷_, _++_}
 use lib.Dec.{eqb, ltb}
 use lib.ListN.{length}
+use Rattle.records.specs.Refusals.{most}
 use Rattle.basics.specs.Sets.{every}
 use Rattle.cases.specs.declared.items.Kind.{Kind}
 use Rattle.cases.specs.declared.items.Kind.the-variants.{Record, Part, Word, State}
 use Rattle.cases.specs.declared.numbers.Number.{Number}
 use Rattle.cases.specs.declared.numbers.Number.the-variants.{Value, Nothing}
-use Rattle.cases.specs.Numbers.{numberOf, isNumber, orZero}
+use Rattle.cases.specs.Numbers.{numberOf, isNumber, orZero, most16}
 use Rattle.cases.specs.Parts.{part, count}
 
 -- "record = 14 fields with commas between", a part and a word state have 4, a word has 2
@@ -25,7 +26,7 @@ fits radix most xs = isNumber (numberOf radix most xs)
 
 -- "hex up to FFFFFFFF, 11 decimals up to 255, a decimal up to 65,535 (first part), a decimal up to 255 (count)"
 unfoldable pub recordField : ℕ → List ℕ → Bool
-recordField k xs = cond (eqb k 0) (fits 16 4294967295 xs) (cond (eqb k 12) (fits 10 65535 xs) (fits 10 255 xs))
+recordField k xs = cond (eqb k 0) (fits 16 4294967295 xs) (cond (eqb k 12) (fits 10 most16 xs) (fits 10 255 xs))
 
 -- "hex up to FFFFFFFF and 3 decimals up to 255"
 unfoldable pub partField : ℕ → List ℕ → Bool
@@ -51,9 +52,13 @@ isItem kind item = eqb (count 44 item) (commasOf kind) && every (fieldFits kind 
 unfoldable pub itemFits : Kind → List ℕ → ℕ → Bool
 itemFits kind xs i = isItem kind (part 32 i xs)
 
+-- one item more than a text may have: enough to be refused
+abbrev pub tooMany : ℕ
+tooMany = 4097
+
 -- one more than the blanks; 4,097 stands for any number above 4,096
 unfoldable pub itemCount : ℕ → ℕ
-itemCount blanks = cond (ltb blanks 4096) (blanks + 1) 4097
+itemCount blanks = cond (ltb blanks most) (blanks + 1) tooMany
 
 -- "empty, or items with exactly one blank between, none before or after": their number
 unfoldable pub itemsOf : Kind → List ℕ → Number

@@ -19,7 +19,7 @@ use Rattle.cases.specs.declared.items.Kind.the-variants.{Record, Part, W
 use Rattle.cases.specs.declared.numbers.Number.{Number}
 use Rattle.cases.specs.declared.numbers.Number.the-variants.{Value, Nothing}
 use Rattle.cases.specs.Items.{itemsOf, isItem, fieldOf}
-use Rattle.cases.specs.Numbers.{numberOf}
+use Rattle.cases.specs.Numbers.{numberOf, most16}
 use Rattle.cases.specs.Parts.{part, count, equal, sign}
 
 -- "A line without bytes, one of blanks (U+0020) only, and one whose first byte is # are skipped"
@@ -56,7 +56,7 @@ textWith parser mode full Nothing records parts = NotOfLayout
 
 unfoldable pub textIn : Parser → Mode → Bool → List ℕ → Line
 textIn parser mode full xs =
-    textWith parser mode full (numberOf 10 65535 (part 59 3 xs)) (itemsOf Record (part 59 4 xs)) (itemsOf Part (part 59 5 xs))
+    textWith parser mode full (numberOf 10 most16 (part 59 3 xs)) (itemsOf Record (part 59 4 xs)) (itemsOf Part (part 59 5 xs))
 
 -- crate or whole, letter by letter
 unfoldable pub moded : Parser → Bool → List ℕ → Line
@@ -77,7 +77,7 @@ wordsWith (Value size) Nothing = NotOfLayout
 wordsWith Nothing records = NotOfLayout
 
 unfoldable pub wordsLine : List ℕ → Line
-wordsLine xs = wordsWith (numberOf 10 65535 (part 59 1 xs)) (itemsOf Word (part 59 2 xs))
+wordsLine xs = wordsWith (numberOf 10 most16 (part 59 1 xs)) (itemsOf Word (part 59 2 xs))
 
 unfoldable pub stateOf : List ℕ → WordState
 stateOf xs =

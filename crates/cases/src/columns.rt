@@ -1,5 +1,6 @@
 // The columns of a text: one field of each item.
 use crate::numbers::Base;
+use crate::numbers::MOST16;
 use crate::numbers::Number;
 use crate::numbers::read_number;
 use crate::parts::next_of;
@@ -9,6 +10,7 @@ ghost use mathlib.Core.Path.{_≡_};
 ghost use mathlib.Core.List.{_++_};
 ghost use Prim.Native.Nat.{min, _≤_};
 ghost use lib.ListN.{length, drop};
+ghost use Rattle.cases.specs.Numbers.{most16};
 ghost use Rattle.io.specs.Counts.{Counts};
 ghost use Rattle.cases.specs.Items.{fieldOf, cellOf, cells};
 
@@ -22,9 +24,9 @@ pub fn field8(item: &[u8], k: usize) -> u8
 }
 
 pub fn field16(item: &[u8], k: usize) -> u16
-    ensures { λ r. ⌜ r ≡ fieldOf 10 65535 k (now (item .entry)) ⌝ }
+    ensures { λ r. ⌜ r ≡ fieldOf 10 most16 k (now (item .entry)) ⌝ }
 {
-    match read_number(part(item, b',', k), Base::Decimal, 65535) {
+    match read_number(part(item, b',', k), Base::Decimal, MOST16) {
         Number::Value(v) => v as u16,
         Number::Nothing => 0,
     }
@@ -66,7 +68,7 @@ pub fn column8(section: &[u8], k: usize, n: usize, out: &mut [u8]) -> usize
 pub fn column16(section: &[u8], k: usize, n: usize, out: &mut [u16]) -> usize
     ensures { λ r. ⌜ r ≡ min n (length (now (out .entry))) ⌝ }
     ensures { λ r. ⌜ Counts r (now (out .exit)) ⌝ }
-    ensures { λ r. ⌜ now (out .exit) ≡ cells (cellOf 10 65535 k (now (section .entry))) r ++ drop r (now (out .entry)) ⌝ }
+    ensures { λ r. ⌜ now (out .exit) ≡ cells (cellOf 10 most16 k (now (section .entry))) r ++ drop r (now (out .entry)) ⌝ }
 {
     let most = least(n, out.len());
     let mut at: usize = 0;

@@ -4,6 +4,7 @@ use crate::items::Kind;
 use crate::items::count_items;
 use crate::items::is_item;
 use crate::numbers::Base;
+use crate::numbers::MOST16;
 use crate::numbers::Number;
 use crate::numbers::read_number;
 use crate::parts::count;
@@ -141,7 +142,7 @@ fn asked_of(kind: u8, script: u8) -> Asked
 fn text_in(line: &[u8], parser: Parser, mode: Mode, full: bool) -> Line
     ensures { λ r. ⌜ r ≡ textIn parser mode full (now (line .entry)) ⌝ }
 {
-    let Number::Value(number) = read_number(part(line, b';', 3), Base::Decimal, 65535) else {
+    let Number::Value(number) = read_number(part(line, b';', 3), Base::Decimal, MOST16) else {
         return Line::NotOfLayout;
     };
     let Number::Value(records) = count_items(part(line, b';', 4), Kind::Record) else {
@@ -186,7 +187,7 @@ fn text_line(line: &[u8], kind: u8) -> Line
 fn words_line(line: &[u8]) -> Line
     ensures { λ r. ⌜ r ≡ wordsLine (now (line .entry)) ⌝ }
 {
-    let Number::Value(cells) = read_number(part(line, b';', 1), Base::Decimal, 65535) else {
+    let Number::Value(cells) = read_number(part(line, b';', 1), Base::Decimal, MOST16) else {
         return Line::NotOfLayout;
     };
     let Number::Value(records) = count_items(part(line, b';', 2), Kind::Word) else {

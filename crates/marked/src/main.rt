@@ -6,18 +6,15 @@ mod runs;
 mod texts;
 
 use classes::Mode;
-use libc::STDOUT_FILENO;
-
-fn write(text: &[u8]) {
-    io::write_all(STDOUT_FILENO, text);
-}
+use console::decimal;
+use console::write;
 
 fn line(number: u64, good: bool) {
     write(b"P");
     if number < 10 {
         write(b"0");
     }
-    io::print_decimal(STDOUT_FILENO, number);
+    decimal(number);
     if good {
         write(b" ok\n");
     } else {

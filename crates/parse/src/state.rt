@@ -40,7 +40,7 @@ fn filled_at(mode: Mode, n: usize, i: usize) -> usize
 fn one_more(m: u16) -> u16
     ensures { λ r. ⌜ r ≡ cond (ltb m 65535) (m + 1) m ⌝ }
 {
-    if m < 65535 { m + 1 } else { m }
+    if m < u16::MAX { m + 1 } else { m }
 }
 
 fn go_on(flow: Flow) -> Flow

@@ -5,6 +5,7 @@ use crate::refusals::refusal;
 use crate::texts::Ask;
 use crate::texts::text;
 use crate::zeros;
+use crate::zeros::CELLS;
 use cases::Line;
 use records::Verdict;
 use records::cells::cell8;
@@ -12,7 +13,7 @@ use words::WordState;
 use words::WordStep;
 
 // The first n cells, one blank between.
-fn cells(to: &mut Buffer, at: usize, answers: &[u8; 65535], n: usize) -> usize {
+fn cells(to: &mut Buffer, at: usize, answers: &[u8; CELLS], n: usize) -> usize {
     let mut end = at;
     let mut i: usize = 0;
     while i < n {

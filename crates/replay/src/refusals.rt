@@ -1,16 +1,8 @@
 // What is printed of a refusal: "R NUMBER INDEX" and the side.
 use crate::out;
 use crate::out::Buffer;
+use console::side_letter;
 use records::Refusal;
-use records::Side;
-
-fn side(s: Side) -> u8 {
-    match s {
-        Side::Record => b'r',
-        Side::Part => b'p',
-        Side::Neither => b'-',
-    }
-}
 
 pub(crate) fn refusal(to: &mut Buffer, at: usize, r: Refusal) -> usize {
     let about = r.side;
@@ -19,5 +11,5 @@ pub(crate) fn refusal(to: &mut Buffer, at: usize, r: Refusal) -> usize {
     end = out::put(to, end, b' ');
     end = out::decimal(to, end, r.index as u64);
     end = out::put(to, end, b' ');
-    out::put(to, end, side(about))
+    out::put(to, end, side_letter(about))
 }

@@ -1,5 +1,6 @@
 use lib.Seq.{length-take-le}
 use native.Mathlib.Omega.{arith}
+use Rattle.cases.specs.Numbers.{most16}
 use Rattle.cases.proofs.Fields.{Filled, column-more}
 use Rattle.cases.proofs.Splits.{rest-more}
 use Rattle.cases.specs.Items.{cellOf, cells}
@@ -12,7 +13,7 @@ use Rattle.cases.proofs.columns.column16.Statement.{statement}
 use Rattle.cases.proofs.columns.column16.Tie as tie
 
 abbrev Inv-loop : tie.InvT-loop
-Inv-loop section k n out₀ most at₀ i₀ out at i = (i ≤ most) × ((length out ≡ length out₀) × ((drop at section ≡ rest 32 i section) × Filled (cellOf 10 65535 k section) out₀ i out))
+Inv-loop section k n out₀ most at₀ i₀ out at i = (i ≤ most) × ((length out ≡ length out₀) × ((drop at section ≡ rest 32 i section) × Filled (cellOf 10 most16 k section) out₀ i out))
 
 abbrev μ-loop : tie.MeasureT-loop
 μ-loop section k n out₀ most at₀ i₀ out at i = most - i

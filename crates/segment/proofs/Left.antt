@@ -1,16 +1,16 @@
--- Why a display loop ends: a call that finds a cluster leaves fewer tokens. Assumes nothing.
+-- Why a loop over the calls ends: a call that finds a cluster leaves fewer tokens. Assumes nothing.
 use Prim.Native.Nat.{ℕ, suc, _-_, _<_}
 use native.Mathlib.Omega.{arith}
 use mathlib.Core.Path.{_≡_, sym, ap, _∙_}
 use mathlib.Core.Bool.{Bool, true, cond}
 use lib.ListN.{length}
 use Rattle.records.specs.Text.{Text}
 use Rattle.segment.specs.Calls.{nextOf, refused, end, found}
 use Rattle.segment.specs.declared.Answer.{Answer}
 use Rattle.segment.specs.declared.Segmenter.{Segmenter}
 use Rattle.segment.specs.declared.What.the-variants.{Found}
 use Rattle.segment.proofs.Coverage.{tokens, next-case, accepted-short}
 use Rattle.segment.proofs.Progress.{progress}
 
 abbrev pub left : Segmenter → Text → ℕ
 left s t = length (tokens s t) - s .place .at
