@@ -22,7 +22,7 @@ fn clusters(classes: &[u8], marks: &[u8], bits: &mut Cells) {
 }
 
 // A cell as it is printed, or the end of the line where it is not.
-fn sign(bit: u8, shown: bool) -> u8 {
+fn digit(bit: u8, shown: bool) -> u8 {
     if shown { b'0' + bit % 2 } else { b'\n' }
 }
 
@@ -31,7 +31,7 @@ fn print(bits: &Cells, n: usize) {
     let mut text = [b'\n'; 65];
     let mut i: usize = 0;
     while i < 64 {
-        text[i] = sign(bits[i], i < n);
+        text[i] = digit(bits[i], i < n);
         i += 1;
     }
     write_first(&text, n);
@@ -75,8 +75,8 @@ fn answer_kind(kind: u8, section: &[u8], items: u32) {
 }
 
 fn answer(line: &[u8]) {
-    let kind = cases::sign(cases::part(line, b';', 0));
-    let section = cases::part(line, b';', 1);
+    let kind = cases::letter(cases::span(line, b';', 0));
+    let section = cases::span(line, b';', 1);
     match cases::count_items(section, Kind::Word) {
         Number::Value(items) => answer_kind(kind, section, items),
         Number::Nothing => not_of_layout(),
@@ -88,7 +88,7 @@ fn answer_all(input: &[u8]) {
     let mut turns = input.len();
     while turns > 0 {
         if at < input.len() {
-            answer(cases::part_at(input, at, b'\n'));
+            answer(cases::span_at(input, at, b'\n'));
         }
         at = cases::next_of(input, at, b'\n');
         turns -= 1;

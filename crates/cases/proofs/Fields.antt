@@ -17,9 +17,9 @@ use Rattle.cases.specs.declared.numbers.Number.{Number}
 use Rattle.cases.specs.declared.numbers.Number.the-variants.{Value, Nothing}
 use Rattle.cases.specs.Items.{commasOf, fits, recordField, partField, stateField, isField, fieldFits, isItem, itemFits, itemCount, itemsOf, fieldOf, cellOf, cells}
 use Rattle.cases.specs.Numbers.{numberOf}
-use Rattle.cases.specs.Parts.{part, count, upTo, rest}
+use Rattle.cases.specs.Spans.{span, count, upTo, rest}
 use Rattle.cases.proofs.Digits.{read-within}
-use Rattle.cases.proofs.Splits.{part-read}
+use Rattle.cases.proofs.Splits.{span-read}
 
 -- n is what was read of the digits
 module _ (radix most : ℕ) (xs : List ℕ) (n : Number) (e : n ≡ numberOf radix most xs) where
@@ -34,8 +34,8 @@ module _ (radix most : ℕ) (xs : List ℕ) (n : Number) (e : n ≡ numberOf rad
   pub value-within : (v : ℕ) → n ≡ Value v → v ≤ most
   value-within v h = read-within radix most xs v (sym e ∙ h)
 
--- p is the part of field k
-module _ (radix most k : ℕ) (item p : List ℕ) (f : p ≡ part 44 k item) (n : Number) (e : n ≡ numberOf radix most p) where
+-- p is the span of field k
+module _ (radix most k : ℕ) (item p : List ℕ) (f : p ≡ span 44 k item) (n : Number) (e : n ≡ numberOf radix most p) where
   pub field-value : (v : ℕ) → n ≡ Value v → v ≡ fieldOf radix most k item
   unfolding fieldOf
   field-value v h = rw (← f, ← e, h)
@@ -72,7 +72,7 @@ module _ (kind : Kind) (item : List ℕ) (n last : ℕ) (en : n ≡ count 44 ite
   item-uneven h = rw (← en, ← el, ne-eqb n last h)
 
   module _ (h : n ≡ last) (k : ℕ) where
-    pub item-fails : k ≤ last → (p : List ℕ) (t : Bool) → p ≡ part 44 k item → t ≡ isField kind k p → t ≡ false → false ≡ isItem kind item
+    pub item-fails : k ≤ last → (p : List ℕ) (t : Bool) → p ≡ span 44 k item → t ≡ isField kind k p → t ≡ false → false ≡ isItem kind item
     unfolding isItem fieldFits
     item-fails l p t ep et f =
         rw (← en, ← el, eq-eqb n last h)
@@ -84,7 +84,7 @@ module _ (kind : Kind) (item : List ℕ) (n last : ℕ) (en : n ≡ count 44 ite
     item-all a f = rw (← en, ← el, eq-eqb n last h, ← f) (sym a)
 
 pub item-more : (kind : Kind) (item : List ℕ) (k : ℕ) (p : List ℕ) (t : Bool) → every (fieldFits kind item) k ≡ true
-    → p ≡ part 44 k item → t ≡ isField kind k p → t ≡ true → every (fieldFits kind item) (k + 1) ≡ true
+    → p ≡ span 44 k item → t ≡ isField kind k p → t ≡ true → every (fieldFits kind item) (k + 1) ≡ true
 unfolding fieldFits
 item-more kind item k p t a ep et h = every-more (fieldFits kind item) k a (rw (← ep, ← et) h)
 
@@ -96,7 +96,7 @@ none-counted kind xs h = rw (eq-eqb _ _ h)
 module _ (kind : Kind) (xs : List ℕ) (i at : ℕ) (left : drop at xs ≡ rest 32 i xs) (p : List ℕ) (ep : p ≡ upTo 32 (drop at xs)) (t : Bool) (et : t ≡ isItem kind p) where
   here : t ≡ itemFits kind xs i
   unfolding itemFits
-  here = et ∙ ap (isItem kind) (part-read 32 xs i at left p ep)
+  here = et ∙ ap (isItem kind) (span-read 32 xs i at left p ep)
 
   pub items-more : every (itemFits kind xs) i ≡ true → t ≡ true → every (itemFits kind xs) (i + 1) ≡ true
   items-more a h = every-more (itemFits kind xs) i a (sym here ∙ h)
@@ -129,5 +129,5 @@ pub column-more : (radix most k : ℕ) (xs : List ℕ) (i at : ℕ) → drop at 
     → (out₀ out : List ℕ) → i < length out₀ → Filled (cellOf radix most k xs) out₀ i out → Filled (cellOf radix most k xs) out₀ (i + 1) (set out i v)
 unfolding cellOf
 column-more radix most k xs i at left p ep v ev out₀ out h e =
-    let f : v ≡ cellOf radix most k xs i = ev ∙ ap (fieldOf radix most k) (part-read 32 xs i at left p ep) in
+    let f : v ≡ cellOf radix most k xs i = ev ∙ ap (fieldOf radix most k) (span-read 32 xs i at left p ep) in
     rw f (filled-more (cellOf radix most k xs) out₀ out i h e)

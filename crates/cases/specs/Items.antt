@@ -11,9 +11,9 @@ use Rattle.cases.specs.declared.items.Kind.the-variants.{Record, Part, W
 use Rattle.cases.specs.declared.numbers.Number.{Number}
 use Rattle.cases.specs.declared.numbers.Number.the-variants.{Value, Nothing}
 use Rattle.cases.specs.Numbers.{numberOf, isNumber, orZero, most16}
-use Rattle.cases.specs.Parts.{part, count}
+use Rattle.cases.specs.Spans.{span, count}
 
--- "record = 14 fields with commas between", a part and a word state have 4, a word has 2
+-- "record = 14 fields with commas between", a span and a word state have 4, a word has 2
 abbrev pub commasOf : Kind → ℕ
 commasOf Record = 13
 commasOf Part = 3
@@ -24,7 +24,7 @@ commasOf State = 3
 unfoldable pub fits : ℕ → ℕ → List ℕ → Bool
 fits radix most xs = isNumber (numberOf radix most xs)
 
--- "hex up to FFFFFFFF, 11 decimals up to 255, a decimal up to 65,535 (first part), a decimal up to 255 (count)"
+-- "hex up to FFFFFFFF, 11 decimals up to 255, a decimal up to 65,535 (first span), a decimal up to 255 (count)"
 unfoldable pub recordField : ℕ → List ℕ → Bool
 recordField k xs = cond (eqb k 0) (fits 16 4294967295 xs) (cond (eqb k 12) (fits 10 most16 xs) (fits 10 255 xs))
 
@@ -44,13 +44,13 @@ isField Word k xs = fits 10 255 xs
 isField State k xs = stateField k xs
 
 unfoldable pub fieldFits : Kind → List ℕ → ℕ → Bool
-fieldFits kind item k = isField kind k (part 44 k item)
+fieldFits kind item k = isField kind k (span 44 k item)
 
 unfoldable pub isItem : Kind → List ℕ → Bool
 isItem kind item = eqb (count 44 item) (commasOf kind) && every (fieldFits kind item) (commasOf kind + 1)
 
 unfoldable pub itemFits : Kind → List ℕ → ℕ → Bool
-itemFits kind xs i = isItem kind (part 32 i xs)
+itemFits kind xs i = isItem kind (span 32 i xs)
 
 -- one item more than a text may have: enough to be refused
 abbrev pub tooMany : ℕ
@@ -68,11 +68,11 @@ itemsOf kind xs =
 
 -- the value of field k of an item
 unfoldable pub fieldOf : ℕ → ℕ → ℕ → List ℕ → ℕ
-fieldOf radix most k item = orZero (numberOf radix most (part 44 k item))
+fieldOf radix most k item = orZero (numberOf radix most (span 44 k item))
 
 -- field k of item i
 unfoldable pub cellOf : ℕ → ℕ → ℕ → List ℕ → ℕ → ℕ
-cellOf radix most k xs i = fieldOf radix most k (part 32 i xs)
+cellOf radix most k xs i = fieldOf radix most k (span 32 i xs)
 
 -- the cells of the first n items
 unfoldable pub cells : (ℕ → ℕ) → ℕ → List ℕ

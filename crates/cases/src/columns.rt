@@ -3,9 +3,9 @@ use crate::numbers::Base;
 use crate::numbers::MOST16;
 use crate::numbers::Number;
 use crate::numbers::read_number;
-use crate::parts::next_of;
-use crate::parts::part;
-use crate::parts::part_at;
+use crate::spans::next_of;
+use crate::spans::span;
+use crate::spans::span_at;
 ghost use mathlib.Core.Path.{_≡_};
 ghost use mathlib.Core.List.{_++_};
 ghost use Prim.Native.Nat.{min, _≤_};
@@ -17,7 +17,7 @@ ghost use Rattle.cases.specs.Items.{fieldOf, cellOf, cells};
 pub fn field8(item: &[u8], k: usize) -> u8
     ensures { λ r. ⌜ r ≡ fieldOf 10 255 k (now (item .entry)) ⌝ }
 {
-    match read_number(part(item, b',', k), Base::Decimal, 255) {
+    match read_number(span(item, b',', k), Base::Decimal, 255) {
         Number::Value(v) => v as u8,
         Number::Nothing => 0,
     }
@@ -26,7 +26,7 @@ pub fn field8(item: &[u8], k: usize) -> u8
 pub fn field16(item: &[u8], k: usize) -> u16
     ensures { λ r. ⌜ r ≡ fieldOf 10 most16 k (now (item .entry)) ⌝ }
 {
-    match read_number(part(item, b',', k), Base::Decimal, MOST16) {
+    match read_number(span(item, b',', k), Base::Decimal, MOST16) {
         Number::Value(v) => v as u16,
         Number::Nothing => 0,
     }
@@ -35,7 +35,7 @@ pub fn field16(item: &[u8], k: usize) -> u16
 pub fn field32(item: &[u8], k: usize) -> u32
     ensures { λ r. ⌜ r ≡ fieldOf 16 4294967295 k (now (item .entry)) ⌝ }
 {
-    match read_number(part(item, b',', k), Base::Hexadecimal, 0xFFFFFFFF) {
+    match read_number(span(item, b',', k), Base::Hexadecimal, 0xFFFFFFFF) {
         Number::Value(v) => v,
         Number::Nothing => 0,
     }
@@ -58,7 +58,7 @@ pub fn column8(section: &[u8], k: usize, n: usize, out: &mut [u8]) -> usize
     let mut at: usize = 0;
     let mut i: usize = 0;
     while i < most {
-        out[i] = field8(part_at(section, at, b' '), k);
+        out[i] = field8(span_at(section, at, b' '), k);
         at = next_of(section, at, b' ');
         i += 1;
     }
@@ -74,7 +74,7 @@ pub fn column16(section: &[u8], k: usize, n: usize, out: &mut [u16]) -> usize
     let mut at: usize = 0;
     let mut i: usize = 0;
     while i < most {
-        out[i] = field16(part_at(section, at, b' '), k);
+        out[i] = field16(span_at(section, at, b' '), k);
         at = next_of(section, at, b' ');
         i += 1;
     }
@@ -90,7 +90,7 @@ pub fn column32(section: &[u8], k: usize, n: usize, out: &mut [u32]) -> usize
     let mut at: usize = 0;
     let mut i: usize = 0;
     while i < most {
-        out[i] = field32(part_at(section, at, b' '), k);
+        out[i] = field32(span_at(section, at, b' '), k);
         at = next_of(section, at, b' ');
         i += 1;
     }

@@ -3,10 +3,10 @@ use crate::numbers::Base;
 use crate::numbers::MOST16;
 use crate::numbers::Number;
 use crate::numbers::read_number;
-use crate::parts::count;
-use crate::parts::next_of;
-use crate::parts::part;
-use crate::parts::part_at;
+use crate::spans::count;
+use crate::spans::next_of;
+use crate::spans::span;
+use crate::spans::span_at;
 use records::MOST;
 ghost use mathlib.Core.Path.{_≡_};
 ghost use Prim.Native.Nat.{_≤_};
@@ -96,7 +96,7 @@ pub fn is_item(item: &[u8], kind: Kind) -> bool
     }
     let mut k: usize = 0;
     while k <= last {
-        if is_field(kind, k, part(item, b',', k)) {
+        if is_field(kind, k, span(item, b',', k)) {
             k += 1;
         } else {
             return false;
@@ -128,14 +128,14 @@ pub fn count_items(section: &[u8], kind: Kind) -> Number
     let mut at: usize = 0;
     let mut i: usize = 0;
     while i < last {
-        if is_item(part_at(section, at, b' '), kind) {
+        if is_item(span_at(section, at, b' '), kind) {
             at = next_of(section, at, b' ');
             i += 1;
         } else {
             return Number::Nothing;
         }
     }
-    if is_item(part_at(section, at, b' '), kind) {
+    if is_item(span_at(section, at, b' '), kind) {
         return Number::Value(item_count(last));
     }
     Number::Nothing

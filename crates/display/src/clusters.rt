@@ -25,7 +25,7 @@ fn space(s: Space) {
     }
 }
 
-fn signs(info: Info) {
+fn known(info: Info) {
     let e = info.emoji;
     let s = info.space;
     emoji(e);
@@ -56,6 +56,6 @@ pub(crate) fn draw(cluster: Cluster) {
     let info = cluster.info;
     write(b" [");
     characters(cluster);
-    signs(info);
+    known(info);
     write(b"]");
 }

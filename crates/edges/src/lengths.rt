@@ -71,14 +71,14 @@ fn check<'a>(
     )
 }
 
-// One sign for each of the 18 columns, and one more where none is of another length.
+// One digit or dot for each of the 18 columns, and one more where none is of another length.
 fn each_column<'a>(b: &'a [u8], h: &'a [u16], w: &'a [u32], other: usize, usual: usize) {
     console::decimal(other as u64);
     write(b" among ");
     console::decimal(usual as u64);
     write(b" ");
     for k in 0..19u8 {
-        verdicts::sign(check(b, h, w, k, other, usual));
+        verdicts::digit(check(b, h, w, k, other, usual));
     }
     write(b"\n");
 }

@@ -220,12 +220,12 @@ pub(crate) fn runs_of_parts() {
     run_of_parts(0, 255);
 }
 
-// One sign for each USE class: the scalar with that class, in a record (columns 0 and 2) or in a part (14 and 16).
+// One digit or dot for each USE class: the scalar with that class, in a record (columns 0 and 2) or in a part (14 and 16).
 fn classes_of(parser: Parser, scalar_column: u8, use_column: u8, x: u32) {
     console::hex(x);
     write(b" ");
     for class in 0..use_class::LEN {
-        verdicts::sign(check(
+        verdicts::digit(check(
             parser,
             two(at(scalar_column, 1, x), at(use_column, 1, class as u32)),
         ));
@@ -243,7 +243,7 @@ pub(crate) fn joiners() {
     }
 }
 
-// One sign for each of U+17BD to U+17C6 as the first record, with the mark, the count and the first part's scalar given.
+// One digit or dot for each of U+17BD to U+17C6 as the first record, with the mark, the count and the first part's scalar given.
 fn signs_of(parser: Parser, decompose: u32, count: u32, part: u32) {
     for x in 0x17BD..0x17C7u32 {
         let cells = Cells {
@@ -252,9 +252,9 @@ fn signs_of(parser: Parser, decompose: u32, count: u32, part: u32) {
             c: at(14, 0, part),
         };
         if decompose == 0 {
-            verdicts::sign(check(parser, cells));
+            verdicts::digit(check(parser, cells));
         } else {
-            verdicts::sign(check(
+            verdicts::digit(check(
                 parser,
                 Cells {
                     a: at(0, 0, x),

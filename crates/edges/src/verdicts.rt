@@ -15,8 +15,8 @@ pub(crate) fn verdict(v: Verdict) {
     }
 }
 
-// One sign: the number of the refusal, or a dot.
-pub(crate) fn sign(v: Verdict) {
+// One digit: the number of the refusal, or a dot.
+pub(crate) fn digit(v: Verdict) {
     match v {
         Verdict::Accepted => write(b"."),
         Verdict::Refused(refusal) => decimal(refusal.number as u64),

@@ -12,7 +12,7 @@ use Rattle.basics.proofs.Tests.{if-same}
 use Rattle.cases.specs.declared.numbers.Number.{Number}
 use Rattle.cases.specs.declared.numbers.Number.the-variants.{Value, Nothing}
 use Rattle.cases.specs.Numbers.{numberOf}
-use Rattle.cases.specs.Parts.{before, upTo, after, nextFrom}
+use Rattle.cases.specs.Spans.{before, upTo, after, nextFrom}
 use Rattle.cases.proofs.Splits.{next-after}
 use Rattle.label.specs.declared.texts.Taken.{Taken}
 use Rattle.label.specs.declared.texts.Taken.the-variants.{Scalars, NotNumber}

@@ -15,11 +15,11 @@ use Rattle.records.specs.declared.Side.the-variants.{Record}
 use Rattle.records.specs.declared.Verdict.the-variants.{Refused}
 use Rattle.stream.specs.Stream as Tokens
 use Rattle.complex.specs.Ignored.{barredText}
-use Rattle.marked.specs.Cases.{sign, textFor}
+use Rattle.marked.specs.Cases.{character, textFor}
 
 -- a base, a consonant mark of a kind, and a U+034F of a class
 abbrev joined : Parser → ℕ → ℕ → Text
-joined parser kind class = textFor parser (sign 0x1780 B ∷ sign 0x17C9 kind ∷ sign CGJ class ∷ []) []
+joined parser kind class = textFor parser (character 0x1780 B ∷ character 0x17C9 kind ∷ character CGJ class ∷ []) []
 
 -- for each class that refusal 6 bars, the text is refused at its U+034F, and its tokens are those of `needed`
 abbrev Barred : Parser → ℕ → Type 0

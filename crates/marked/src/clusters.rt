@@ -3,7 +3,7 @@ use crate::calls;
 use crate::calls::Call;
 use crate::calls::one;
 use crate::calls::two;
-use crate::texts::Sign;
+use crate::texts::Character;
 use crate::texts::Text;
 use crate::texts::of_class;
 use classes::Mode;
@@ -19,7 +19,7 @@ use parse::Pushed;
 use parse::Space;
 use records::Parser;
 
-const NO_SIGN: Sign = Sign {
+const NO_CHARACTER: Character = Character {
     scalar: 0,
     class: 0,
     emoji: 0,
@@ -29,7 +29,14 @@ const NO_SIGN: Sign = Sign {
 // U+0301, a mark that may compose
 const ACUTE: u32 = 0x301;
 
-fn text(parser: Parser, len: usize, a: Sign, b: Sign, c: Sign, d: Sign) -> Text {
+fn text(
+    parser: Parser,
+    len: usize,
+    a: Character,
+    b: Character,
+    c: Character,
+    d: Character,
+) -> Text {
     Text {
         parser,
         len,
@@ -37,12 +44,12 @@ fn text(parser: Parser, len: usize, a: Sign, b: Sign, c: Sign, d: Sign) -> Text 
         b,
         c,
         d,
-        part: NO_SIGN,
+        part: NO_CHARACTER,
     }
 }
 
-fn simple2(a: Sign, b: Sign) -> Text {
-    text(Parser::Simple, 2, a, b, NO_SIGN, NO_SIGN)
+fn simple2(a: Character, b: Character) -> Text {
+    text(Parser::Simple, 2, a, b, NO_CHARACTER, NO_CHARACTER)
 }
 
 fn character(scalar: u32, class: Shape, index: u16) -> Pushed {
@@ -98,7 +105,14 @@ fn broken() -> Info {
 
 // P01 simple, empty: the end, at once
 pub(crate) fn p01(mode: Mode) -> bool {
-    let t = text(Parser::Simple, 0, NO_SIGN, NO_SIGN, NO_SIGN, NO_SIGN);
+    let t = text(
+        Parser::Simple,
+        0,
+        NO_CHARACTER,
+        NO_CHARACTER,
+        NO_CHARACTER,
+        NO_CHARACTER,
+    );
     calls::over(calls::begin(t, mode), t)
 }
 
@@ -145,7 +159,7 @@ pub(crate) fn p05(mode: Mode) -> bool {
         l,
         v,
         of_class(0x11A8, cluster_break::T),
-        NO_SIGN,
+        NO_CHARACTER,
     );
     let a = character(0x1100, Shape::Base, 0);
     let b = character(0x1161, Shape::Base, 1);
@@ -153,8 +167,8 @@ pub(crate) fn p05(mode: Mode) -> bool {
     two(t, mode, call2(a, b, no_info(), 2), call1(c, no_info(), 3))
 }
 
-fn emoji(scalar: u32) -> Sign {
-    Sign {
+fn emoji(scalar: u32) -> Character {
+    Character {
         scalar,
         class: cluster_break::XX,
         emoji: 1,
@@ -236,7 +250,7 @@ pub(crate) fn p08(mode: Mode) -> bool {
 }
 
 // The story's label, U+1004 U+103A U+1039, and more records
-fn label(len: usize, later: Sign) -> Text {
+fn label(len: usize, later: Character) -> Text {
     text(
         Parser::Myanmar,
         len,
@@ -263,8 +277,16 @@ fn kinzi(len: usize, later: Pushed, info: Info, next: usize) -> Call {
 pub(crate) fn p09(mode: Mode) -> bool {
     let repeated = character(scalar::VIRAMA, Shape::Other, 2);
     match mode {
-        Mode::Crate => one(label(3, NO_SIGN), mode, kinzi(4, repeated, broken(), 3)),
-        Mode::Whole => one(label(3, NO_SIGN), mode, kinzi(3, repeated, no_info(), 3)),
+        Mode::Crate => one(
+            label(3, NO_CHARACTER),
+            mode,
+            kinzi(4, repeated, broken(), 3),
+        ),
+        Mode::Whole => one(
+            label(3, NO_CHARACTER),
+            mode,
+            kinzi(3, repeated, no_info(), 3),
+        ),
     }
 }
 
@@ -295,8 +317,8 @@ pub(crate) fn p11(mode: Mode) -> bool {
 }
 
 // One part, or a record with one part
-fn part(scalar: u32, class: u8) -> Sign {
-    Sign {
+fn part(scalar: u32, class: u8) -> Character {
+    Character {
         scalar,
         class,
         emoji: 0,
@@ -311,8 +333,8 @@ pub(crate) fn p12(mode: Mode) -> bool {
         len: 2,
         a: of_class(0x1780, use_class::B),
         b: part(scalar::KHMER_OE, use_class::VAbv),
-        c: NO_SIGN,
-        d: NO_SIGN,
+        c: NO_CHARACTER,
+        d: NO_CHARACTER,
         part: part(scalar::KHMER_E, use_class::VPre),
     };
     let a = character(0x1780, Shape::Base, 0);
@@ -330,7 +352,7 @@ pub(crate) fn p13(mode: Mode) -> bool {
         of_class(scalar::CR, use_class::O),
         joiner,
         of_class(scalar::LF, use_class::O),
-        NO_SIGN,
+        NO_CHARACTER,
     );
     let a = character(scalar::CR, Shape::Control, 0);
     let b = character(scalar::CGJ, Shape::Other, 1);

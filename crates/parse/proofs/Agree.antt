@@ -15,7 +15,7 @@ use Rattle.classes.specs.declared.Mode.the-variants.{Crate, Whole}
 use Rattle.parse.specs.declared.Flow.{Flow}
 use Rattle.parse.specs.declared.Flow.the-variants.{GoOn, Stop, Full, End}
 use Rattle.parse.specs.State.{tokenAt, placeAfter, begin, inMode, isGoing, going, atMost, loop, turns, putOf, notedOf, movedOf, stepOf, pushOf, noteOf, onJoiner, hop, goOn, passesEnd, resumedOf, retriedOf}
-use Rattle.parse.specs.Rule.{Rule, skip, stop, push, note, mark, seq, choose, while, part, thrice, run, holds, takeOf, thriceOf}
+use Rattle.parse.specs.Rule.{Rule, skip, stop, push, note, mark, seq, choose, while, scope, thrice, run, holds, takeOf, thriceOf}
 use Rattle.parse.proofs.Loop.{at-most-keeps, loop-keeps}
 use Rattle.parse.proofs.Moves.{moved-case, put-same, noted-same}
 use Rattle.parse.proofs.Keeps.{Keeps, hop-keeps, take-keeps, run-keeps}
@@ -159,7 +159,7 @@ module _ (text : List ℕ) where
   run-agrees (choose p a b) s f = if-intro (λ q. fine q ≡ true → run (choose p a b) text (up s) ≡ up q) (holds text p s) _ _
       (λ h g. rw h (run-agrees a s g)) (λ h g. rw h (run-agrees b s g)) f
   run-agrees (while p a) s f = loop-agrees text (holds text p) (run a text) (λ q. refl) (λ q g. run-agrees a q g) (λ q n h. run-keeps text _ _ unless a q n) s f
-  run-agrees (part a) s f = if-intro (λ q. fine q ≡ true → run (part a) text (up s) ≡ up q) (going s) _ _
+  run-agrees (scope a) s f = if-intro (λ q. fine q ≡ true → run (scope a) text (up s) ≡ up q) (going s) _ _
       (λ g h. rw g (ap resumedOf (run-agrees a s (before (fine (run a text s)) _ (unless .resumed (run a text s)) h)))) (λ g h. rw g) f
   run-agrees (thrice c) s f = if-intro (λ q. fine q ≡ true → run (thrice c) text (up s) ≡ up q) (going s) _ _
       (λ g h. let r = thriceOf text c s in

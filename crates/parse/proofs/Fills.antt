@@ -16,7 +16,7 @@ use Rattle.parse.specs.declared.Parse.{Parse}
 use Rattle.parse.specs.declared.Place.{Place}
 use Rattle.classes.specs.declared.Mode.{Mode}
 use Rattle.parse.specs.State.{tokenAt, placeOf, begin, isGoing, going, putOf, notedOf, pushOf, noteOf, passesEnd, retriedOf}
-use Rattle.parse.specs.Rule.{Test, Rule, skip, stop, push, note, mark, seq, choose, while, part, thrice, run, holds, takeOf, thriceOf}
+use Rattle.parse.specs.Rule.{Test, Rule, skip, stop, push, note, mark, seq, choose, while, scope, thrice, run, holds, takeOf, thriceOf}
 use Rattle.parse.specs.declared.Emoji.the-variants.{Default}
 use Rattle.parse.specs.Rule.{isEmoji, setEmoji}
 use Rattle.parse.specs.Shared.{emojiTurn, emojis, newline, otherArm}
@@ -77,7 +77,7 @@ quiet (mark f) = true
 quiet (seq a b) = cond (quiet a) (quiet b) false
 quiet (choose p a b) = cond (quiet a) (quiet b) false
 quiet (while p a) = false
-quiet (part a) = false
+quiet (scope a) = false
 quiet (thrice c) = false
 
 -- such a rule leaves the flow and the place
@@ -97,7 +97,7 @@ run-quiet (choose p a b) text s q =
     let k = both-of (quiet a) (quiet b) q in
     if-intro (λ (u : Parse). (u .flow ≡ s .flow) × (u .at ≡ s .at)) (holds text p s) (run a text s) (run b text s) (λ h. run-quiet a text s (k .0)) (λ h. run-quiet b text s (k .1))
 run-quiet (while p a) text s q = absurd (false≢true q)
-run-quiet (part a) text s q = absurd (false≢true q)
+run-quiet (scope a) text s q = absurd (false≢true q)
 run-quiet (thrice c) text s q = absurd (false≢true q)
 
 -- so a test stays as it was
@@ -114,7 +114,7 @@ fills (mark f) = false
 fills (seq a b) = cond (fills a) true (cond (quiet a) (fills b) false)
 fills (choose p a b) = cond (fills a) (fills b) false
 fills (while p a) = false
-fills (part a) = fills a
+fills (scope a) = fills a
 fills (thrice c) = true
 
 -- such a rule leaves a character
@@ -133,7 +133,7 @@ run-fills (choose p a b) text s f g =
     let k = both-of (fills a) (fills b) f in
     if-intro Some (holds text p s) (run a text s) (run b text s) (λ h. run-fills a text s (k .0) g) (λ h. run-fills b text s (k .1) g)
 run-fills (while p a) text s f g = absurd (false≢true f)
-run-fills (part a) text s f g = if-intro Some (going s) _ _ (λ h. run-fills a text s f g) (λ h. absurd (false≢true (sym h ∙ g)))
+run-fills (scope a) text s f g = if-intro Some (going s) _ _ (λ h. run-fills a text s f g) (λ h. absurd (false≢true (sym h ∙ g)))
 run-fills (thrice c) text s f g = if-intro Some (going s) _ _ (λ h. retried-some (thriceOf text c s) (thrice-some text c s g)) (λ h. absurd (false≢true (sym h ∙ g)))
 
 -- a loop that is entered, whose body fills
@@ -144,9 +144,9 @@ while-fills p a text s f m h = rw (run-goes p a text s m h) (run-some (while p a
 pub while-either : (p : Test) (a : Rule) (text : List ℕ) (s : Parse) → fills a ≡ true → moves a ≡ true → Some (run (while p a) text s) ⊎ (run (while p a) text s ≡ s)
 while-either p a text s f m = by-test (holds text p s) (λ h. inl (while-fills p a text s f m h)) (λ h. inr (run-stays p a text s h))
 
-pub part-fills : (a : Rule) (text : List ℕ) (s : Parse) → going s ≡ true → Some (run a text s) → Some (run (part a) text s)
+pub scope-fills : (a : Rule) (text : List ℕ) (s : Parse) → going s ≡ true → Some (run a text s) → Some (run (scope a) text s)
 unfolding run
-part-fills a text s g i = if-intro Some (going s) _ _ (λ h. i) (λ h. absurd (false≢true (sym h ∙ g)))
+scope-fills a text s g i = if-intro Some (going s) _ _ (λ h. i) (λ h. absurd (false≢true (sym h ∙ g)))
 
 -- by cases on a choice
 pub choose-case : (R : Parse → Type 0) (p : Test) (a b : Rule) (text : List ℕ) (s : Parse) → (holds text p s ≡ true → R (run a text s)) → (holds text p s ≡ false → R (run b text s)) → R (run (choose p a b) text s)
@@ -163,7 +163,7 @@ unfolding emojis emojiTurn
 emojis-some text s h =
     let q = run (mark (setEmoji Default)) text s in
     let k : holds text isEmoji q ≡ true = quiet-holds (mark (setEmoji Default)) text isEmoji s refl h in
-    rw run-seq (part-fills (while isEmoji emojiTurn) text q (holds-going text isEmoji q k) (while-fills isEmoji emojiTurn text q refl refl k))
+    rw run-seq (scope-fills (while isEmoji emojiTurn) text q (holds-going text isEmoji q k) (while-fills isEmoji emojiTurn text q refl refl k))
 
 -- and so does the arm O, wherever it begins
 pub other-some : (text : List ℕ) (s : Parse) → going s ≡ true → Some (run otherArm text s)

@@ -9,7 +9,7 @@ use Rattle.classes.specs.declared.Shape.{Shape}
 use Rattle.classes.specs.declared.Shape.the-variants.{Other}
 use Rattle.parse.specs.declared.Parse.{Parse}
 use Rattle.parse.specs.State.{tokenAt, going, putOf, notedOf, movedOf, onJoiner, hop, stepOf, pushOf, noteOf}
-use Rattle.parse.specs.Rule.{Rule, skip, stop, push, note, mark, seq, choose, while, part, thrice, run, holds, takeOf, thriceOf}
+use Rattle.parse.specs.Rule.{Rule, skip, stop, push, note, mark, seq, choose, while, scope, thrice, run, holds, takeOf, thriceOf}
 use Rattle.parse.proofs.Loop.{loop-keeps}
 use Rattle.parse.proofs.Moves.{put-same, noted-same, moved-case}
 
@@ -23,7 +23,7 @@ free (mark f) = true
 free (seq a b) = cond (free a) (free b) false
 free (choose p a b) = cond (free a) (free b) false
 free (while p a) = free a
-free (part a) = free a
+free (scope a) = free a
 free (thrice c) = false
 
 abbrev againOf : Parse → Bool
@@ -62,5 +62,5 @@ module _ (text : List ℕ) where
   run-again (choose p a b) s k = let h = both-of (free a) (free b) k in
       if-same againOf (holds text p s) (run a text s) (run b text s) (s .again) (run-again a s (h .0)) (run-again b s (h .1))
   run-again (while p a) s k = loop-keeps text (holds text p) (run a text) (λ q. q .again ≡ s .again) (λ q i h. run-again a q k ∙ i) s refl
-  run-again (part a) s k = if-same againOf (going s) _ s (s .again) (run-again a s k) refl
+  run-again (scope a) s k = if-same againOf (going s) _ s (s .again) (run-again a s k) refl
   run-again (thrice c) s k = absurd (false≢true k)

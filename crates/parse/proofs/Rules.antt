@@ -13,7 +13,7 @@ use Rattle.parse.specs.declared.Parse.{Parse}
 use Rattle.parse.specs.declared.Info.{Info}
 use Rattle.parse.specs.declared.Flow.the-variants.{Stop}
 use Rattle.parse.specs.State.{tokenAt, turns, going, withFlow, withInfo, movedOf, onJoiner, pushOf, notedOf, noteOf, stepOf, resumedOf, retriedOf}
-use Rattle.parse.specs.Rule.{Test, Rule, skip, stop, push, note, mark, seq, choose, while, part, thrice, run, takeOf, thriceOf, holds, take, either, oneOf, kindHere, is}
+use Rattle.parse.specs.Rule.{Test, Rule, skip, stop, push, note, mark, seq, choose, while, scope, thrice, run, takeOf, thriceOf, holds, take, either, oneOf, kindHere, is}
 use Rattle.parse.proofs.Moves.{joiner-going, step-over}
 use Rattle.parse.proofs.Runs.{moves, run-still, run-goes, run-stays, run-falls, run-seq, run-then, run-else}
 
@@ -40,9 +40,9 @@ module _ (text : List ℕ) (s r : Parse) where
   unfolding run thriceOf
   by-thrice c q u v t e h a b d j = j ∙ ap retriedOf (d ∙ ap (takeOf text c) (b ∙ ap (takeOf text c) a)) ∙ rw (sym e ∙ h)
 
-  pub by-part : (a : Rule) (q : Parse) (t : Bool) → t ≡ going s → t ≡ true → q ≡ run a text s → r ≡ resumedOf q → r ≡ run (part a) text s
+  pub by-scope : (a : Rule) (q : Parse) (t : Bool) → t ≡ going s → t ≡ true → q ≡ run a text s → r ≡ resumedOf q → r ≡ run (scope a) text s
   unfolding run
-  by-part a q t e h k j = j ∙ rw (k, sym e ∙ h)
+  by-scope a q t e h k j = j ∙ rw (k, sym e ∙ h)
 
   pub by-stop : (t : Bool) → t ≡ going s → t ≡ true → r ≡ withFlow Stop s → r ≡ run stop text s
   unfolding run
@@ -69,7 +69,7 @@ module _ (text : List ℕ) (s r : Parse) where
   pub by-else : (p : Test) (a b : Rule) (t : Bool) → t ≡ holds text p s → t ≡ false → r ≡ run b text s → r ≡ run (choose p a b) text s
   by-else p a b t e h q = q ∙ sym (run-else p a b text s (sym e ∙ h))
 
-pub ruleset rules = (by-skip, by-push, by-note, by-part, by-thrice, by-stop, by-mark, by-still, by-then, by-else, by-seq)
+pub ruleset rules = (by-skip, by-push, by-note, by-scope, by-thrice, by-stop, by-mark, by-still, by-then, by-else, by-seq)
 
 -- for more arms than `rules` reaches
 pub ruleset arms = (by-then, by-else, by-seq)
@@ -138,9 +138,9 @@ loop-leaves p a text s q t i e h = sym (run-stays p a text q (sym e ∙ h)) ∙ 
 pub loop-then : (p : Test) (a b : Rule) (text : List ℕ) (s q r : Parse) (t : Bool) → run (while p a) text q ≡ run (while p a) text s → t ≡ holds text p q → t ≡ false → r ≡ run b text q → r ≡ run (seq (while p a) b) text s
 loop-then p a b text s q r t i e h k = by-seq text s r (while p a) b q (loop-leaves p a text s q t i e h) k
 
--- and where it is a part behind another rule, which made m
-pub loop-part : (p : Test) (a b : Rule) (text : List ℕ) (s m q r : Parse) (t u : Bool) → m ≡ run b text s → t ≡ going m → t ≡ true → run (while p a) text q ≡ run (while p a) text m → u ≡ holds text p q → u ≡ false → r ≡ resumedOf q → r ≡ run (seq b (part (while p a))) text s
-loop-part p a b text s m q r t u k g h i e j l = by-seq text s r b (part (while p a)) m k (by-part text m r (while p a) q t g h (loop-leaves p a text m q u i e j) l)
+-- and where it is a scope behind another rule, which made m
+pub loop-scope : (p : Test) (a b : Rule) (text : List ℕ) (s m q r : Parse) (t u : Bool) → m ≡ run b text s → t ≡ going m → t ≡ true → run (while p a) text q ≡ run (while p a) text m → u ≡ holds text p q → u ≡ false → r ≡ resumedOf q → r ≡ run (seq b (scope (while p a))) text s
+loop-scope p a b text s m q r t u k g h i e j l = by-seq text s r b (scope (while p a)) m k (by-scope text m r (while p a) q t g h (loop-leaves p a text m q u i e j) l)
 
 -- its measure falls
 pub falls : (p : Test) (a : Rule) (text : List ℕ) (q r : Parse) (t : Bool) → moves a ≡ true → t ≡ holds text p q → t ≡ true → r ≡ run a text q → turns text r < turns text q

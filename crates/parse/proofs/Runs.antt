@@ -10,7 +10,7 @@ use lib.ListN.{length}
 use Rattle.basics.proofs.Tests.{if-intro, by-test}
 use Rattle.parse.specs.declared.Parse.{Parse}
 use Rattle.parse.specs.State.{tokenAt, turns, going}
-use Rattle.parse.specs.Rule.{Test, Rule, skip, stop, push, note, mark, seq, choose, while, part, thrice, run, holds}
+use Rattle.parse.specs.Rule.{Test, Rule, skip, stop, push, note, mark, seq, choose, while, scope, thrice, run, holds}
 use Rattle.parse.proofs.Loop.{Falls, loop-goes, loop-stays}
 use Rattle.parse.proofs.Moves.{push-turns, note-turns}
 use Rattle.parse.proofs.Keeps.{run-at}
@@ -26,7 +26,7 @@ run-still (mark f) text s g = rw g
 run-still (seq a b) text s g = rw (run-still a text s g) (run-still b text s g)
 run-still (choose p a b) text s g = rw g (run-still b text s g)
 run-still (while p a) text s g = loop-stays text (holds text p) (run a text) s (rw g)
-run-still (part a) text s g = rw g
+run-still (scope a) text s g = rw g
 run-still (thrice c) text s g = rw g
 
 -- the turns left do not grow
@@ -46,7 +46,7 @@ moves (mark f) = false
 moves (seq a b) = cond (moves a) true (moves b)
 moves (choose p a b) = cond (moves a) (moves b) false
 moves (while p a) = false
-moves (part a) = false
+moves (scope a) = false
 moves (thrice c) = false
 
 -- such a rule passes a token or ends the flow
@@ -69,7 +69,7 @@ run-moves (choose p a b) text s m g = by-test (moves a)
     (λ h. run-moves a text s ma g) (λ h. run-moves b text s (rw ma at m) g))
     (λ na. absurd (false≢true (rw na at m)))
 run-moves (while p a) text s m g = absurd (false≢true m)
-run-moves (part a) text s m g = absurd (false≢true m)
+run-moves (scope a) text s m g = absurd (false≢true m)
 run-moves (thrice c) text s m g = absurd (false≢true m)
 
 pub holds-going : (text : List ℕ) (p : Test) (s : Parse) → holds text p s ≡ true → going s ≡ true

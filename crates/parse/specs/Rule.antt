@@ -21,7 +21,7 @@ Test = List ℕ → ℕ → Bool
 
 pub data Rule : Type 0 where
   skip : Rule
-  -- the part around is done, or else the cluster: the Rust's `return` and `break`
+  -- the scope around is done, or else the cluster: the Rust's `return` and `break`
   stop : Rule
   -- the current token becomes a character, of a class that it decides, and is stepped off
   push : (ℕ → Shape) → Rule
@@ -33,7 +33,7 @@ pub data Rule : Type 0 where
   choose : Test → Rule → Rule → Rule
   while : Test → Rule → Rule
   -- a stop in it ends it alone
-  part : Rule → Rule
+  scope : Rule → Rule
   -- kinzi, a push and a step three times; that the Rust's three pushes and then three steps come to the same is `kinzi-as-rust` of the
   -- crate `myanmar`
   thrice : Shape → Rule
@@ -61,7 +61,7 @@ run (choose p a b) text s =
     let rb = run b text s in
     cond (holds text p s) ra rb
 run (while p a) text s = loop text (holds text p) (run a text) s
-run (part a) text s = let r = run a text s in cond (going s) (resumedOf r) s
+run (scope a) text s = let r = run a text s in cond (going s) (resumedOf r) s
 run (thrice c) text s = let r = thriceOf text c s in cond (going s) (retriedOf r) s
 
 -- one rule behind another; it binds more strongly than a choice

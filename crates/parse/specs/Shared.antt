@@ -11,7 +11,7 @@ use Rattle.classes.specs.Scalar.{CR, LF, ZWNJ, ZWJ, VS15, VS16}
 use Rattle.token.specs.Token.{scalarOf, categoryOf}
 use Rattle.parse.specs.declared.Emoji.the-variants.{Default, Text, Color}
 use Rattle.parse.specs.declared.Space.the-variants.{Newline}
-use Rattle.parse.specs.Rule.{Rule, skip, stop, push, note, mark, while, part, _▸_, _⇒_∣_, take, isBreak, isScalar, isEmoji, setEmoji, setSpace, setSpaceFromChar}
+use Rattle.parse.specs.Rule.{Rule, skip, stop, push, note, mark, while, scope, _▸_, _⇒_∣_, take, isBreak, isScalar, isEmoji, setEmoji, setSpace, setSpaceFromChar}
 
 -- `parse_emoji_extension`, its arm EX: U+FE0F and U+FE0E "are noted instead" (SCOPE 6.2)
 unfoldable pub emojiMark : Rule
@@ -31,7 +31,7 @@ emojiTurn = take Base ▸ emojiExtension
 
 -- the arm `if self.emoji()`
 unfoldable pub emojis : Rule
-emojis = mark (setEmoji Default) ▸ part (while isEmoji emojiTurn)
+emojis = mark (setEmoji Default) ▸ scope (while isEmoji emojiTurn)
 
 -- the class of a character of class O, by its category
 abbrev pub otherClass : ℕ → Shape

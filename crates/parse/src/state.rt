@@ -298,7 +298,7 @@ impl Parse {
         self
     }
 
-    // After a part: a stop in it ended it alone.
+    // After a scope: a stop in it ended it alone.
     pub fn resumed(self) -> Parse
         ensures { λ r. ⌜ r ≡ resumedOf self ⌝ }
     {

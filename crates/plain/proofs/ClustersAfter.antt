@@ -18,7 +18,7 @@ use Rattle.parse.specs.declared.Info.{Info}
 use Rattle.parse.specs.declared.Flow.{Flow}
 use Rattle.parse.specs.declared.Flow.the-variants.{GoOn, Stop, End}
 use Rattle.parse.specs.State.{tokenAt, placeAfter, turns, isGoing, going, putOf, notedOf, movedOf, stepOf, pushOf, noteOf, goOn, resumedOf, passesEnd}
-use Rattle.parse.specs.Rule.{Rule, Test, skip, stop, push, note, mark, seq, choose, while, part, run, holds}
+use Rattle.parse.specs.Rule.{Rule, Test, skip, stop, push, note, mark, seq, choose, while, scope, run, holds}
 use Rattle.parse.proofs.Loop.{loop-keeps}
 use Rattle.parse.proofs.Moves.{put-same, noted-same, moved-case, step-stays}
 use Rattle.parse.proofs.Keeps.{run-keeps}
@@ -189,14 +189,14 @@ module _ (text : List ℕ) (b : ℕ → Bool) (from : ℕ) where
     pub while-after : moves a ≡ true → (s : Parse) → Stands text b from GoOn s → I (s .at) → After text b from (λ j. I j × (p text j ≡ false)) T (run (while p a) text s)
     while-after m s st x = ends (run (while p a) text s) (while-leaves p a text m (turns text s) s (le-refl _)) (while-keeps s (goes st x))
 
-  -- a part: a stop in it ends it alone
+  -- a scope: a stop in it ends it alone
   resumed-after : (q : Parse) {Q S R T : ℕ → Type 0} → After text b from Q S q → ((j : ℕ) → j < length text → Q j → R j) → ((j : ℕ) → j < length text → S j → R j) → After text b from R T (resumedOf q)
   resumed-after q (full l) f g = full l
   resumed-after q (over o) f g = over (record { flow = ap goOn (o .flow); done = o .done; again = o .again; past = o .past })
   resumed-after q (halted st x) f g = goes (record { flow = ap goOn (st .flow); done = st .done; joins = st .joins; again = st .again; inside = st .inside; later = st .later; past = st .past }) (g (q .at) (st .inside) x)
   resumed-after q (goes st x) f g = goes (record { flow = ap goOn (st .flow); done = st .done; joins = st .joins; again = st .again; inside = st .inside; later = st .later; past = st .past }) (f (q .at) (st .inside) x)
 
-  pub part-after : (a : Rule) (s : Parse) {Q S R T : ℕ → Type 0} → Stands text b from GoOn s → After text b from Q S (run a text s) → ((j : ℕ) → j < length text → Q j → R j) → ((j : ℕ) → j < length text → S j → R j) → After text b from R T (run (part a) text s)
+  pub part-after : (a : Rule) (s : Parse) {Q S R T : ℕ → Type 0} → Stands text b from GoOn s → After text b from Q S (run a text s) → ((j : ℕ) → j < length text → Q j → R j) → ((j : ℕ) → j < length text → S j → R j) → After text b from R T (run (scope a) text s)
   unfolding run
   part-after a s {R = R} {T = T} st i f g = if-intro (λ (q : Parse). After text b from R T q) (going s) _ _
       (λ h. resumed-after (run a text s) i f g) (λ h. absurd (false≢true (sym h ∙ ap isGoing (st .flow))))

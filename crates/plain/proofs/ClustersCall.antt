@@ -25,7 +25,7 @@ use Rattle.parse.specs.declared.Flow.the-variants.{GoOn}
 use Rattle.parse.specs.declared.Space.the-variants.{Newline}
 use Rattle.parse.specs.declared.Emoji.the-variants.{Default, Text, Color}
 use Rattle.parse.specs.State.{tokenAt, begin}
-use Rattle.parse.specs.Rule.{skip, stop, note, mark, seq, choose, while, part, run, take, manyAs, acceptAs, is, isBreak, isScalar, isEmoji, isSelector, oneOf, setBroken, setEmoji, setSpace, setSpaceFromChar, forceNormalize}
+use Rattle.parse.specs.Rule.{skip, stop, note, mark, seq, choose, while, scope, run, take, manyAs, acceptAs, is, isBreak, isScalar, isEmoji, isSelector, oneOf, setBroken, setEmoji, setSpace, setSpaceFromChar, forceNormalize}
 use Rattle.parse.specs.Rule as Parse-rule
 use Rattle.parse.specs.Shared.{emojiMark, emojiExtension, emojiTurn, emojis, newline}
 use Rattle.simple.specs.Grammar.{cluster, start, control, syllable, other, isExtension, extension, extend, combining}
@@ -191,7 +191,7 @@ module _ (stream breaks marks : List ℕ) (shows : Shows stream breaks marks) (p
 
   emojis-after : (q : Parse) → On q → q .at ≡ from → isEmoji stream from ≡ true → Left Quiet Nowhere (run emojis stream q)
   unfolding emojis emojiTurn emojiExtension
-  emojis-after q on e h = seq-after stream b from (mark (setEmoji Default)) (part (while isEmoji emojiTurn)) q
+  emojis-after q on e h = seq-after stream b from (mark (setEmoji Default)) (scope (while isEmoji emojiTurn)) q
       (mark-after stream b from q on (setEmoji Default) {R = λ j. j ≡ from} {T = Nowhere} e)
       (λ u onu x. part-after stream b from (while isEmoji emojiTurn) u onu
       (while-after stream b from isEmoji emojiTurn Head Stopped emoji-turn refl u onu (inl x))

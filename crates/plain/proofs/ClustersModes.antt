@@ -19,7 +19,7 @@ use Rattle.stream.specs.Stream.{streamOf}
 use Rattle.parse.specs.declared.Parse.{Parse}
 use Rattle.parse.specs.declared.Flow.the-variants.{Full}
 use Rattle.parse.specs.State.{begin, tokenAt, placeAfter, placeOf, turns, isGoing, going, inMode, putOf, notedOf, movedOf, onJoiner, atMost, loop, hop, stepOf, pushOf, noteOf, goOn, resumedOf}
-use Rattle.parse.specs.Rule.{Rule, Test, skip, stop, push, note, mark, seq, choose, while, part, thrice, run, holds}
+use Rattle.parse.specs.Rule.{Rule, Test, skip, stop, push, note, mark, seq, choose, while, scope, thrice, run, holds}
 use Rattle.parse.specs.Shared.{emojis, emojiTurn, emojiExtension, emojiMark, newline}
 use Rattle.parse.proofs.Loop.{loop-stays}
 use Rattle.parse.proofs.Runs.{run-still}
@@ -66,7 +66,7 @@ kinziless (mark f) = true
 kinziless (seq a b) = cond (kinziless a) (kinziless b) false
 kinziless (choose p a b) = cond (kinziless a) (kinziless b) false
 kinziless (while p a) = kinziless a
-kinziless (part a) = kinziless a
+kinziless (scope a) = kinziless a
 kinziless (thrice c) = false
 
 short-and : (a b c d : Bool) → a ≡ b → (a ≡ true → c ≡ d) → (a && c) ≡ (b && d)
@@ -137,7 +137,7 @@ module _ (text : List ℕ) where
   run-lock (choose p a b) n s = let k = both-of (kinziless a) (kinziless b) n in
       by-test (holds text p s) (λ h. rw h (run-lock a (k .0) s)) (λ h. rw h (run-lock b (k .1) s))
   run-lock (while p a) n s = loop-lock (holds text p) (run a text) (λ q. refl) (test-still p) (run-lock a n) text s (up s) (inl refl)
-  run-lock (part a) n s = by-test (going s) (λ g. rw g (resumed-lock (run a text s) (run a text (up s)) (run-lock a n s))) (λ g. rw g (inl refl))
+  run-lock (scope a) n s = by-test (going s) (λ g. rw g (resumed-lock (run a text s) (run a text (up s)) (run-lock a n s))) (λ g. rw g (inl refl))
   run-lock (thrice c) n s = absurd (false≢true n)
 
 -- # The simple parser

@@ -27,7 +27,7 @@ fn cells(to: &mut Buffer, at: usize, answers: &[u8; CELLS], n: usize) -> usize {
 }
 
 fn word_run(to: &mut Buffer, at: usize, line: &[u8], size: u32, records: usize) -> usize {
-    let section = cases::part(line, b';', 2);
+    let section = cases::span(line, b';', 2);
     let mut classes = zeros::column8();
     let mut pictographs = zeros::column8();
     let mut answers = zeros::cells8();

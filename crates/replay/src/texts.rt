@@ -259,8 +259,8 @@ fn read32(section: &[u8], k: usize, n: usize) -> [u32; COLUMN] {
 }
 
 pub(crate) fn text(to: &mut Buffer, at: usize, line: &[u8], ask: Ask, n: usize, m: usize) -> usize {
-    let section = cases::part(line, b';', 4);
-    let second = cases::part(line, b';', 5);
+    let section = cases::span(line, b';', 4);
+    let second = cases::span(line, b';', 5);
     cut(
         to,
         at,

@@ -3,7 +3,7 @@ use Rattle.basics.specs.Sets.{every}
 use Rattle.cases.proofs.Fields.{none-counted, items-more, items-fail, items-all}
 use Rattle.cases.proofs.Splits.{rest-more}
 use Rattle.cases.specs.Items.{itemFits}
-use Rattle.cases.specs.Parts.{rest}
+use Rattle.cases.specs.Spans.{rest}
 use lib.ListN.{drop}
 use mathlib.Core.Bool.{true}
 use mathlib.Core.Path.{_≡_, refl}
@@ -27,8 +27,8 @@ count-requires c κs = search needs
 loop-holds : tie.Need-loop-holds Inv-loop μ-loop
 loop-holds c = unfold rest every in (search needs, (refl, refl))
 
-part-at-requires : tie.Need-part-at-requires Inv-loop μ-loop
-part-at-requires c κs = search needs
+span-at-requires : tie.Need-span-at-requires Inv-loop μ-loop
+span-at-requires c κs = search needs
 
 is-item-requires : tie.Need-is-item-requires Inv-loop μ-loop
 is-item-requires c κs = search needs
@@ -48,8 +48,8 @@ loop-again c = (search needs, (search rest-more, search items-more))
 returns-2 : tie.Need-returns-2 Inv-loop μ-loop
 returns-2 c = search items-fail
 
-part-at-requires-2 : tie.Need-part-at-requires-2 Inv-loop μ-loop
-part-at-requires-2 c κs = search needs
+span-at-requires-2 : tie.Need-span-at-requires-2 Inv-loop μ-loop
+span-at-requires-2 c κs = search needs
 
 is-item-requires-2 : tie.Need-is-item-requires-2 Inv-loop μ-loop
 is-item-requires-2 c κs = search needs
@@ -72,14 +72,14 @@ count-items-spec =
     returns
     count-requires
     loop-holds
-    part-at-requires
+    span-at-requires
     is-item-requires
     next-of-requires
     add-i
     loop-less
     loop-again
     returns-2
-    part-at-requires-2
+    span-at-requires-2
     is-item-requires-2
     item-count-requires
     returns-3

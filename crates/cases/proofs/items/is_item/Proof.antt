@@ -27,8 +27,8 @@ returns c = search item-uneven
 loop-holds : tie.Need-loop-holds Inv-loop μ-loop
 loop-holds c = unfold every in (search needs, refl)
 
-part-requires : tie.Need-part-requires Inv-loop μ-loop
-part-requires c κs = search needs
+span-requires : tie.Need-span-requires Inv-loop μ-loop
+span-requires c κs = search needs
 
 is-field-requires : tie.Need-is-field-requires Inv-loop μ-loop
 is-field-requires c κs = search needs
@@ -58,7 +58,7 @@ is-item-spec =
     count-requires
     returns
     loop-holds
-    part-requires
+    span-requires
     is-field-requires
     add-k
     loop-less

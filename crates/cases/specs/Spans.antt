@@ -19,7 +19,7 @@ upTo s xs = take (before s xs) xs
 unfoldable pub after : ℕ → List ℕ → List ℕ
 after s xs = drop (suc (before s xs)) xs
 
--- where the next part begins after one that begins at `at`: behind the first s from there on; where there is none, at the end of the
+-- where the next span begins after one that begins at `at`: behind the first s from there on; where there is none, at the end of the
 -- text, or at `at` itself, if that is past the end
 unfoldable pub nextFrom : ℕ → ℕ → List ℕ → ℕ
 nextFrom s at xs =
@@ -31,8 +31,8 @@ unfoldable pub rest : ℕ → ℕ → List ℕ → List ℕ
 rest s zero xs = xs
 rest s (suc k) xs = after s (rest s k xs)
 
-unfoldable pub part : ℕ → ℕ → List ℕ → List ℕ
-part s k xs = upTo s (rest s k xs)
+unfoldable pub span : ℕ → ℕ → List ℕ → List ℕ
+span s k xs = upTo s (rest s k xs)
 
 -- how many separators there are: one less than the parts
 unfoldable pub count : ℕ → List ℕ → ℕ
@@ -46,5 +46,5 @@ unfoldable pub equal : List ℕ → List ℕ → Bool
 equal xs ys = eqb (length xs) (length ys) && every (agree xs ys) (length xs)
 
 -- the byte of a text of one byte, else 0
-unfoldable pub sign : List ℕ → ℕ
-sign xs = cond (eqb (length xs) 1) (getD xs 0 0) 0
+unfoldable pub letter : List ℕ → ℕ
+letter xs = cond (eqb (length xs) 1) (getD xs 0 0) 0

@@ -1,7 +1,7 @@
 use Rattle.cases.proofs.Splits.{next-found, next-none}
 use borrow.Author.Needs.{needs}
-use Rattle.cases.proofs.parts.next_of.Statement.{statement}
-use Rattle.cases.proofs.parts.next_of.Tie as tie
+use Rattle.cases.proofs.spans.next_of.Statement.{statement}
+use Rattle.cases.proofs.spans.next_of.Tie as tie
 
 end-of-requires : tie.Need-end-of-requires
 end-of-requires c κs = search needs

@@ -1,12 +1,12 @@
 use native.Mathlib.Omega.{arith}
-use Rattle.cases.proofs.Splits.{rest-more, part-read}
-use Rattle.cases.specs.Parts.{rest}
+use Rattle.cases.proofs.Splits.{rest-more, span-read}
+use Rattle.cases.specs.Spans.{rest}
 use lib.ListN.{drop}
 use mathlib.Core.Path.{_≡_, refl}
 use Prim.Native.Nat.{_-_, _≤_}
 use borrow.Author.Needs.{needs}
-use Rattle.cases.proofs.parts.part.Statement.{statement}
-use Rattle.cases.proofs.parts.part.Tie as tie
+use Rattle.cases.proofs.spans.span.Statement.{statement}
+use Rattle.cases.proofs.spans.span.Tie as tie
 
 abbrev Inv-loop : tie.InvT-loop
 Inv-loop xs s k at₀ i₀ at i = (i ≤ k) × (drop at xs ≡ rest s i xs)
@@ -29,14 +29,14 @@ loop-less c = search needs
 loop-again : tie.Need-loop-again Inv-loop μ-loop
 loop-again c = (search needs, search rest-more)
 
-part-at-requires : tie.Need-part-at-requires Inv-loop μ-loop
-part-at-requires c κs = search needs
+span-at-requires : tie.Need-span-at-requires Inv-loop μ-loop
+span-at-requires c κs = search needs
 
 returns : tie.Need-returns Inv-loop μ-loop
-returns c = let e : c .before .before .loop .i ≡ c .before .before .before .before .args .k = omega arith in rw (← e) (part-read _ _ _ (c .before .before .loop .at) (c .before .before .loop .inv .1) _ (c .part-at .ensures))
+returns c = let e : c .before .before .loop .i ≡ c .before .before .before .before .args .k = omega arith in rw (← e) (span-read _ _ _ (c .before .before .loop .at) (c .before .before .loop .inv .1) _ (c .span-at .ensures))
 
-pub part-spec : {M : Type 1} → statement M
-part-spec =
+pub span-spec : {M : Type 1} → statement M
+span-spec =
     tie.close
     (tie.spec
     Inv-loop
@@ -46,5 +46,5 @@ part-spec =
     add-i
     loop-less
     loop-again
-    part-at-requires
+    span-at-requires
     returns)

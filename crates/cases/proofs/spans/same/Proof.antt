@@ -1,14 +1,14 @@
 use Rattle.basics.specs.Sets.{every}
 use Rattle.cases.proofs.Splits.{equal-short, equal-fails, equal-all, equal-more}
-use Rattle.cases.specs.Parts.{agree}
+use Rattle.cases.specs.Spans.{agree}
 use native.Mathlib.Omega.{arith}
 use lib.ListN.{length}
 use mathlib.Core.Bool.{true}
 use mathlib.Core.Path.{_≡_, refl}
 use Prim.Native.Nat.{_-_, _≤_}
 use borrow.Author.Needs.{needs}
-use Rattle.cases.proofs.parts.same.Statement.{statement}
-use Rattle.cases.proofs.parts.same.Tie as tie
+use Rattle.cases.proofs.spans.same.Statement.{statement}
+use Rattle.cases.proofs.spans.same.Tie as tie
 
 abbrev Inv-loop : tie.InvT-loop
 Inv-loop xs ys i₀ i = (i ≤ length xs) × (every (agree xs ys) i ≡ true)

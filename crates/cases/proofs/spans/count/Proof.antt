@@ -1,13 +1,13 @@
 use Rattle.cases.proofs.Splits.{count-here, count-pass, count-over}
-use Rattle.cases.specs.Parts.{count}
+use Rattle.cases.specs.Spans.{count}
 use native.Mathlib.Omega.{arith}
 use lib.ListN.{length, drop}
 use mathlib.Core.Logic.{⊎-elim}
 use mathlib.Core.Path.{_≡_}
 use Prim.Native.Nat.{_+_, _-_, _≤_}
 use borrow.Author.Needs.{needs}
-use Rattle.cases.proofs.parts.count.Statement.{statement}
-use Rattle.cases.proofs.parts.count.Tie as tie
+use Rattle.cases.proofs.spans.count.Statement.{statement}
+use Rattle.cases.proofs.spans.count.Tie as tie
 
 abbrev Inv-loop : tie.InvT-loop
 Inv-loop xs s n₀ i₀ n i = (n ≤ i) × (n + count s (drop i xs) ≡ count s xs)

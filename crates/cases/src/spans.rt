@@ -2,10 +2,10 @@
 ghost use mathlib.Core.Path.{_≡_};
 ghost use Prim.Native.Nat.{_+_};
 ghost use lib.ListN.{drop};
-ghost use Rattle.cases.specs.Parts as Parts;
-ghost use Rattle.cases.specs.Parts.{before, upTo, nextFrom, equal};
+ghost use Rattle.cases.specs.Spans as Spans;
+ghost use Rattle.cases.specs.Spans.{before, upTo, nextFrom, equal};
 
-// Where the part that begins at `at` ends.
+// Where the span that begins at `at` ends.
 pub(crate) fn end_of(xs: &[u8], at: usize, s: u8) -> usize
     ensures { λ r. ⌜ r ≡ at + before s (drop at (now (xs .entry))) ⌝ }
 {
@@ -19,7 +19,7 @@ pub(crate) fn end_of(xs: &[u8], at: usize, s: u8) -> usize
     i
 }
 
-// Where the next part begins: the end of the text, where there is none.
+// Where the next span begins: the end of the text, where there is none.
 pub fn next_of(xs: &[u8], at: usize, s: u8) -> usize
     ensures { λ r. ⌜ r ≡ nextFrom s at (now (xs .entry)) ⌝ }
 {
@@ -30,8 +30,8 @@ pub fn next_of(xs: &[u8], at: usize, s: u8) -> usize
     end
 }
 
-// The part that begins at `at`.
-pub fn part_at(xs: &[u8], at: usize, s: u8) -> &[u8]
+// The span that begins at `at`.
+pub fn span_at(xs: &[u8], at: usize, s: u8) -> &[u8]
     ensures { λ r. ⌜ now r ≡ upTo s (drop at (now (xs .entry))) ⌝ }
 {
     if xs.len() < at {
@@ -41,8 +41,8 @@ pub fn part_at(xs: &[u8], at: usize, s: u8) -> &[u8]
     &xs[at..end]
 }
 
-pub fn part(xs: &[u8], s: u8, k: usize) -> &[u8]
-    ensures { λ r. ⌜ now r ≡ Parts.part s k (now (xs .entry)) ⌝ }
+pub fn span(xs: &[u8], s: u8, k: usize) -> &[u8]
+    ensures { λ r. ⌜ now r ≡ Spans.span s k (now (xs .entry)) ⌝ }
 {
     let mut at: usize = 0;
     let mut i: usize = 0;
@@ -50,11 +50,11 @@ pub fn part(xs: &[u8], s: u8, k: usize) -> &[u8]
         at = next_of(xs, at, s);
         i += 1;
     }
-    part_at(xs, at, s)
+    span_at(xs, at, s)
 }
 
 pub(crate) fn count(xs: &[u8], s: u8) -> usize
-    ensures { λ r. ⌜ r ≡ Parts.count s (now (xs .entry)) ⌝ }
+    ensures { λ r. ⌜ r ≡ Spans.count s (now (xs .entry)) ⌝ }
 {
     let mut n: usize = 0;
     let mut i: usize = 0;
@@ -84,8 +84,8 @@ pub(crate) fn same(xs: &[u8], ys: &[u8]) -> bool
 }
 
 // The byte of a text of one byte, else 0, which no line has in such a place.
-pub fn sign(xs: &[u8]) -> u8
-    ensures { λ r. ⌜ r ≡ Parts.sign (now (xs .entry)) ⌝ }
+pub fn letter(xs: &[u8]) -> u8
+    ensures { λ r. ⌜ r ≡ Spans.letter (now (xs .entry)) ⌝ }
 {
     if xs.len() == 1 {
         return xs[0];

@@ -1,11 +1,11 @@
 use Rattle.cases.proofs.Splits.{end-here, end-pass, end-over}
-use Rattle.cases.specs.Parts.{before}
+use Rattle.cases.specs.Spans.{before}
 use lib.ListN.{length, drop}
 use mathlib.Core.Path.{_≡_, refl}
 use Prim.Native.Nat.{_+_, _-_}
 use borrow.Author.Needs.{needs}
-use Rattle.cases.proofs.parts.end_of.Statement.{statement}
-use Rattle.cases.proofs.parts.end_of.Tie as tie
+use Rattle.cases.proofs.spans.end_of.Statement.{statement}
+use Rattle.cases.proofs.spans.end_of.Tie as tie
 
 abbrev Inv-loop : tie.InvT-loop
 Inv-loop xs at s i₀ i = i + before s (drop i xs) ≡ at + before s (drop at xs)

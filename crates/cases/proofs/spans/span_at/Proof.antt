@@ -1,13 +1,13 @@
-use Rattle.cases.proofs.Splits.{part-none, part-here, part-within}
+use Rattle.cases.proofs.Splits.{span-none, span-here, span-within}
 use borrow.Author.Needs.{needs}
-use Rattle.cases.proofs.parts.part_at.Statement.{statement}
-use Rattle.cases.proofs.parts.part_at.Tie as tie
+use Rattle.cases.proofs.spans.span_at.Statement.{statement}
+use Rattle.cases.proofs.spans.span_at.Tie as tie
 
 slice-aggregate-result : tie.Need-slice-aggregate-result
 slice-aggregate-result c = search needs
 
 returns : tie.Need-returns
-returns c = search part-none
+returns c = search span-none
 
 end-of-requires : tie.Need-end-of-requires
 end-of-requires c κs = search needs
@@ -19,13 +19,13 @@ part-result-start : tie.Need-part-result-start
 part-result-start c = search needs
 
 part-result-end : tie.Need-part-result-end
-part-result-end c = part-within _ _ _ _ (c .end-of .ensures) (c .before .if1 .left)
+part-result-end c = span-within _ _ _ _ (c .end-of .ensures) (c .before .if1 .left)
 
 returns-2 : tie.Need-returns-2
-returns-2 c = search part-here
+returns-2 c = search span-here
 
-pub part-at-spec : {M : Type 1} → statement M
-part-at-spec =
+pub span-at-spec : {M : Type 1} → statement M
+span-at-spec =
     tie.close
     (tie.spec
     slice-aggregate-result
