@@ -12,11 +12,11 @@ begins-number-requires c κs = search needs
 sub-read-number : tie.Need-sub-read-number
 sub-read-number c = search needs
 
-span-read-number-start : tie.Need-span-read-number-start
-span-read-number-start c = search needs
+part-read-number-start : tie.Need-part-read-number-start
+part-read-number-start c = search needs
 
-span-read-number-end : tie.Need-span-read-number-end
-span-read-number-end c = search needs
+part-read-number-end : tie.Need-part-read-number-end
+part-read-number-end c = search needs
 
 read-number-requires : tie.Need-read-number-requires
 read-number-requires c κs = search needs
@@ -34,8 +34,8 @@ number-spec =
     returns
     begins-number-requires
     sub-read-number
-    span-read-number-start
-    span-read-number-end
+    part-read-number-start
+    part-read-number-end
     read-number-requires
     returns-2
     returns-3)
