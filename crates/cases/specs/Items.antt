@@ -13,7 +13,7 @@ use Rattle.cases.specs.declared.numbers.Number.the-variants.{Value, Noth
 use Rattle.cases.specs.Numbers.{numberOf, isNumber, orZero, most16}
 use Rattle.cases.specs.Spans.{span, count}
 
--- "record = 14 fields with commas between", a span and a word state have 4, a word has 2
+-- "record = 14 fields with commas between", a part and a word state have 4, a word has 2
 abbrev pub commasOf : Kind → ℕ
 commasOf Record = 13
 commasOf Part = 3
@@ -24,7 +24,7 @@ commasOf State = 3
 unfoldable pub fits : ℕ → ℕ → List ℕ → Bool
 fits radix most xs = isNumber (numberOf radix most xs)
 
--- "hex up to FFFFFFFF, 11 decimals up to 255, a decimal up to 65,535 (first span), a decimal up to 255 (count)"
+-- "hex up to FFFFFFFF, 11 decimals up to 255, a decimal up to 65,535 (first part), a decimal up to 255 (count)"
 unfoldable pub recordField : ℕ → List ℕ → Bool
 recordField k xs = cond (eqb k 0) (fits 16 4294967295 xs) (cond (eqb k 12) (fits 10 most16 xs) (fits 10 255 xs))
 

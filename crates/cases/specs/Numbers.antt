@@ -1,4 +1,4 @@
--- Decimal and hexadecimal numbers: "no letter, no prefix, leading zeros allowed. A value too large for its type is not of the layout."
+-- Decimal and hexadecimal numbers: "no sign, no prefix, leading zeros allowed. A value too large for its type is not of the layout."
 use Prim.Native.Nat.{ℕ, _+_, _-_, _*_}
 use mathlib.Core.Bool.{Bool, true, false, cond}
 use mathlib.Core.List.{List, [], _∷_}
@@ -8,7 +8,7 @@ use Rattle.cases.specs.declared.numbers.Base.the-variants.{Decimal, Hexa
 use Rattle.cases.specs.declared.numbers.Number.{Number}
 use Rattle.cases.specs.declared.numbers.Number.the-variants.{Value, Nothing}
 
--- the most that a first span and a count of cells can be, two bytes
+-- the most that a first part and a count of cells can be, two bytes
 abbrev pub most16 : ℕ
 most16 = 65535
 

@@ -26,7 +26,6 @@ use Rattle.parse.specs.declared.Space.the-variants.{Newline}
 use Rattle.parse.specs.declared.Emoji.the-variants.{Default, Text, Color}
 use Rattle.parse.specs.State.{tokenAt, begin}
 use Rattle.parse.specs.Rule.{skip, stop, note, mark, seq, choose, while, scope, run, take, manyAs, acceptAs, is, isBreak, isScalar, isEmoji, isSelector, oneOf, setBroken, setEmoji, setSpace, setSpaceFromChar, forceNormalize}
-use Rattle.parse.specs.Rule as Parse-rule
 use Rattle.parse.specs.Shared.{emojiMark, emojiExtension, emojiTurn, emojis, newline}
 use Rattle.simple.specs.Grammar.{cluster, start, control, syllable, other, isExtension, extension, extend, combining}
 use Rattle.uax29.specs.Clusters.{boundaryAt}
@@ -44,12 +43,6 @@ pub record Shows (stream breaks marks : List ℕ) : Type 0 where
 or-right : (a b : Bool) → b ≡ true → (a || b) ≡ true
 or-right true b e = refl
 or-right false b e = e
-
-three : (a b c : Bool) → cond a true (cond b true (cond c true false)) ≡ (a || (b || (c || false)))
-three true b c = refl
-three false true c = refl
-three false false true = refl
-three false false false = refl
 
 neither : (a b : Bool) → a ≡ false → b ≡ false → (a || (b || false)) ≡ false
 neither a b e f = rw (e, f)
@@ -90,7 +83,7 @@ module _ (stream breaks marks : List ℕ) (shows : Shows stream breaks marks) (p
 
     pub extension-is : isExtension stream j ≡ member extensions (cell breaks j)
     unfolding isExtension oneOf
-    extension-is = ap (λ x. cond (eqb x EX) true (cond (eqb x SM) true (cond (eqb x ZWJ) true false))) (shows .kind j in-columns) ∙ three (eqb (cell breaks j) EX) (eqb (cell breaks j) SM) (eqb (cell breaks j) ZWJ)
+    extension-is = ap (member extensions) (shows .kind j in-columns)
 
     -- a test that no plain kind meets
     never : (t : ℕ → Bool) → t XX ≡ false → t EX ≡ false → t SM ≡ false → t ZWJ ≡ false → t CR ≡ false → t LF ≡ false → t CN ≡ false → t (kindOf (tokenAt stream j)) ≡ false
@@ -226,9 +219,9 @@ module _ (stream breaks marks : List ℕ) (shows : Shows stream breaks marks) (p
     syllable-after cr = choose-after stream b from q on (is L) _ _
         (λ h. absurd (false≢true (sym (never (q .at) (on .inside) (λ k. eqb k L) refl refl refl refl refl refl refl) ∙ h)))
         (λ h. choose-after stream b from q on (oneOf (LV ∷ «V» ∷ [])) _ _
-        (λ x. absurd (false≢true (sym (never (q .at) (on .inside) (Parse-rule.member (LV ∷ «V» ∷ [])) refl refl refl refl refl refl refl) ∙ x)))
+        (λ x. absurd (false≢true (sym (never (q .at) (on .inside) (member (LV ∷ «V» ∷ [])) refl refl refl refl refl refl refl) ∙ x)))
         (λ x. choose-after stream b from q on (oneOf (LVT ∷ T ∷ [])) _ _
-        (λ y. absurd (false≢true (sym (never (q .at) (on .inside) (Parse-rule.member (LVT ∷ T ∷ [])) refl refl refl refl refl refl refl) ∙ y)))
+        (λ y. absurd (false≢true (sym (never (q .at) (on .inside) (member (LVT ∷ T ∷ [])) refl refl refl refl refl refl refl) ∙ y)))
         (λ y. other-after cr)))
 
     -- the LF after a CR

@@ -11,12 +11,11 @@ use lib.ListN.{length, drop, getD}
 use borrow.Author.Tests.{eqb-true, ltb-true, ltb-false, le-ltb}
 use Rattle.basics.proofs.Sets.{every-at}
 use Rattle.basics.proofs.Tests.{by-test, both}
-use Rattle.basics.specs.Sets.{member, every}
+use Rattle.basics.specs.Sets.{member, every, any as any-of}
 use Rattle.classes.specs.ClusterBreak.{XX}
 use Rattle.classes.specs.declared.Mode.{Mode}
 use Rattle.records.specs.Text.{Text, cell, recordLengths}
 use Rattle.records.specs.Refusals.{uneven, verdict}
-use Rattle.records.specs.Refusals as Refusals
 use Rattle.records.specs.Sound.{Sound}
 use Rattle.records.specs.declared.Parser.the-variants.{Simple}
 use Rattle.records.specs.declared.Verdict.the-variants.{Accepted}
@@ -62,7 +61,7 @@ not-false true e = refl
 not-false false e = absurd (false≢true (sym e))
 
 second-even : (x y : ℕ) (ns : List ℕ) → uneven (x ∷ y ∷ ns) ≡ false → y ≡ x
-second-even x y ns e = eqb-true y x (not-false (eqb y x) (second-false (not (eqb x x)) (not (eqb y x)) (Refusals.any (λ n. not (eqb n x)) ns) e))
+second-even x y ns e = eqb-true y x (not-false (eqb y x) (second-false (not (eqb x x)) (not (eqb y x)) (any-of (λ n. not (eqb n x)) ns) e))
 
 module _ (mode : Mode) (t : Text) (accepted : verdict Simple t ≡ Accepted) where
   abbrev sound : Sound Simple t

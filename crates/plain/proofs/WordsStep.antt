@@ -6,7 +6,7 @@ use mathlib.Core.Bool.{Bool, true, false, cond, not, _&&_, _||_, and-false, true
 use mathlib.Core.List.{List, [], _∷_}
 use lib.Dec.{eqb, leb}
 use Rattle.basics.proofs.Sets.{eq-case, in-case, Each}
-use Rattle.basics.proofs.Tests.{both, neither}
+use Rattle.basics.proofs.Tests.{both as and-both, neither}
 use Rattle.basics.specs.Choices.{_⇒_▹_}
 use Rattle.basics.specs.Sets.{member}
 use Rattle.classes.specs.WordBreak.{CR, LF, Extend, ZWJ, FO, WSegSpace, ALetter, HL, NU, SQ, DQ, KA, EX, RI}
@@ -48,7 +48,7 @@ pub record Looks (next : Next) (c : ℕ) : Type 0 where
 -- two tests, on the classes on the two sides
 pair-case : (P : ℕ → ℕ → Type 0) (k l a b : ℕ) → (eqb a k && eqb b l) ≡ true → P k l → P a b
 pair-case P k l a b h p =
-    let both-hold = both (eqb a k) (eqb b l) h in
+    let both-hold = and-both (eqb a k) (eqb b l) h in
     eq-case (λ x. P x b) a k (both-hold .0) (eq-case (P k) b l (both-hold .1) p)
 
 set-case : (P : ℕ → ℕ → Type 0) (ks ls : List ℕ) (a b : ℕ) → member ks a ≡ true → member ls b ≡ true → Each (λ x. Each (P x) ls) ks → P a b
@@ -130,14 +130,14 @@ module _ (o : Bool) (p c : ℕ) where
     letter-exit : (member AHLetter a && member (NU ∷ AHLetter) b) ≡ true → Joins far a b
     unfolding decided fromWB1 fromWB3c fromWB5 fromWB7a fromWB8
     letter-exit h =
-        let k = both (member AHLetter a) (member (NU ∷ AHLetter) b) h in
+        let k = and-both (member AHLetter a) (member (NU ∷ AHLetter) b) h in
         set-case (Joins far) AHLetter (NU ∷ AHLetter) a b (k .0) (k .1) ((refl, (refl, (refl, tt))), ((refl, (refl, (refl, tt))), tt))
 
     mid-letter-exit : (member AHLetter a && (member midLetters b && member AHLetter c)) ≡ true → Holds far a b
     unfolding decided fromWB1 fromWB3c fromWB5
     mid-letter-exit h =
-        let k = both (member AHLetter a) (member midLetters b && member AHLetter c) h in
-        let l = both (member midLetters b) (member AHLetter c) (k .1) in
+        let k = and-both (member AHLetter a) (member midLetters b && member AHLetter c) h in
+        let l = and-both (member midLetters b) (member AHLetter c) (k .1) in
         let e : member AHLetter c ≡ true = l .1 in
         set-case (Holds far) AHLetter midLetters a b (k .0) (l .0) ((rw e, (rw e, (rw e, tt))), ((rw e, (rw e, (rw e, tt))), tt))
 
@@ -149,22 +149,22 @@ module _ (o : Bool) (p c : ℕ) where
     hebrew-double-exit : (eqb a HL && (eqb b DQ && eqb c HL)) ≡ true → Holds far a b
     unfolding decided fromWB1 fromWB3c fromWB5 fromWB7a
     hebrew-double-exit h =
-        let k = both (eqb a HL) (eqb b DQ && eqb c HL) h in
-        let l = both (eqb b DQ) (eqb c HL) (k .1) in
+        let k = and-both (eqb a HL) (eqb b DQ && eqb c HL) h in
+        let l = and-both (eqb b DQ) (eqb c HL) (k .1) in
         let e : eqb c HL ≡ true = l .1 in
         eq-case (λ x. Holds far x b) a HL (k .0) (eq-case (Holds far HL) b DQ (l .0) (rw e))
 
     number-exit : (eqb a NU && member (NU ∷ AHLetter) b) ≡ true → Joins far a b
     unfolding decided fromWB1 fromWB3c fromWB5 fromWB7a fromWB8
     number-exit h =
-        let k = both (eqb a NU) (member (NU ∷ AHLetter) b) h in
+        let k = and-both (eqb a NU) (member (NU ∷ AHLetter) b) h in
         eq-case (λ x. Joins far x b) a NU (k .0) (in-case (Joins far NU) (NU ∷ AHLetter) b (k .1) (refl, (refl, (refl, tt))))
 
     mid-number-exit : (eqb a NU && (member midNumbers b && eqb c NU)) ≡ true → Holds far a b
     unfolding decided fromWB1 fromWB3c fromWB5 fromWB7a fromWB8
     mid-number-exit h =
-        let k = both (eqb a NU) (member midNumbers b && eqb c NU) h in
-        let l = both (member midNumbers b) (eqb c NU) (k .1) in
+        let k = and-both (eqb a NU) (member midNumbers b && eqb c NU) h in
+        let l = and-both (member midNumbers b) (eqb c NU) (k .1) in
         let e : eqb c NU ≡ true = l .1 in
         eq-case (λ x. Holds far x b) a NU (k .0) (in-case (Holds far NU) midNumbers b (l .0) (rw e, (rw e, (rw e, tt))))
 
@@ -175,30 +175,30 @@ module _ (o : Bool) (p c : ℕ) where
     to-extender-exit : (eqb b EX && member extended a) ≡ true → Joins far a b
     unfolding decided fromWB1 fromWB3c fromWB5 fromWB7a fromWB8 fromWB13
     to-extender-exit h =
-        let k = both (eqb b EX) (member extended a) h in
+        let k = and-both (eqb b EX) (member extended a) h in
         eq-case (Joins far a) b EX (k .0) (in-case (λ x. Joins far x EX) extended a (k .1) (refl, (refl, (refl, (refl, (refl, tt))))))
 
     from-extender-exit : (eqb a EX && member extendable b) ≡ true → Joins far a b
     unfolding decided fromWB1 fromWB3c fromWB5 fromWB7a fromWB8 fromWB13
     from-extender-exit h =
-        let k = both (eqb a EX) (member extendable b) h in
+        let k = and-both (eqb a EX) (member extendable b) h in
         eq-case (λ x. Joins far x b) a EX (k .0) (in-case (Joins far EX) extendable b (k .1) (refl, (refl, (refl, (refl, tt)))))
 
   released-exit : (far a b : ℕ) → held far a b ≡ true → Releases far a b
   unfolding decided fromWB1 fromWB3c fromWB5 fromWB7a fromWB8
   released-exit far a b h =
       either-case (Releases far a b) (both MidLetters a Letters far && holds Letters b) _ h
-      (λ l. let k = both (both MidLetters a Letters far) (holds Letters b) l in
-      let m = both (holds MidLetters a) (holds Letters far) (k .0) in
+      (λ l. let k = and-both (both MidLetters a Letters far) (holds Letters b) l in
+      let m = and-both (holds MidLetters a) (holds Letters far) (k .0) in
       in-case (λ w. Releases w a b) AHLetter far (m .1) (
         set-case (Releases ALetter) midLetters AHLetter a b (m .0) (k .1) ((refl, (refl, tt)), ((refl, (refl, tt)), ((refl, (refl, tt)), tt))),
         (set-case (Releases HL) midLetters AHLetter a b (m .0) (k .1) ((refl, (refl, tt)), ((refl, (refl, tt)), ((refl, (refl, tt)), tt))), tt),
       ))
       (λ n r. either-case (Releases far a b) (both (Only DQ) a (Only HL) far && holds (Only HL) b) _ r
-      (λ l. let k = both (both (Only DQ) a (Only HL) far) (holds (Only HL) b) l in
+      (λ l. let k = and-both (both (Only DQ) a (Only HL) far) (holds (Only HL) b) l in
       pair-case (λ x w. Releases w x b) DQ HL a far (k .0) (eq-case (Releases HL DQ) b HL (k .1) refl))
-      (λ n′ l. let k = both (both MidNumbers a (Only NU) far) (holds (Only NU) b) l in
-      let m = both (holds MidNumbers a) (holds (Only NU) far) (k .0) in
+      (λ n′ l. let k = and-both (both MidNumbers a (Only NU) far) (holds (Only NU) b) l in
+      let m = and-both (holds MidNumbers a) (holds (Only NU) far) (k .0) in
       eq-case (λ w. Releases w a b) far NU (m .1) (eq-case (Releases NU a) b NU (k .1) (in-case (λ x. Releases NU x NU) midNumbers a (m .0) (refl, (refl, (refl, tt)))))))
 
   -- where no exit above those of RI is taken

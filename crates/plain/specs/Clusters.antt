@@ -6,7 +6,7 @@ use mathlib.Core.Bool.{Bool, true, cond, not, _&&_, _||_}
 use mathlib.Core.List.{List, [], _∷_, _++_, map}
 use lib.Dec.{eqb, ltb}
 use lib.ListN.{length}
-use Rattle.basics.specs.Sets.{member}
+use Rattle.basics.specs.Sets.{member, every}
 use Rattle.classes.specs.ClusterBreak.{XX, CN, CR, LF, EX, SM, ZWJ}
 use Rattle.classes.specs.declared.Mode.{Mode}
 use Rattle.records.specs.Text.{Text, cell}

@@ -61,7 +61,7 @@ impl Parser {
     }
 }
 
-// A refusal: its number in document 01's table, and what it is about; where that is neither a record nor a part, the index is 0.
+// A refusal: its number in the table of SCOPE 5.1, and what it is about; where that is neither a record nor a part, the index is 0.
 pub struct Refusal {
     pub number: u8,
     pub side: Side,

@@ -58,7 +58,7 @@ item-count-requires : tie.Need-item-count-requires Inv-loop μ-loop
 item-count-requires c κs = search needs
 
 returns-3 : tie.Need-returns-3 Inv-loop μ-loop
-returns-3 c = items-all _ _ _ (c .before .before .before .before .before .loop .at) (c .before .before .before .before .before .loop .inv .1 .0) _ (c .before .before .before .part-at2 .ensures) _ (c .before .before .is-item2 .ensures) (c .before .before .before .before .before .before .before .if1 .left) _ (c .before .before .before .before .before .before .count .ensures) (omega arith) (c .before .before .before .before .before .loop .inv .1 .1) (c .before .if3 .taken) _ (c .item-count .ensures)
+returns-3 c = items-all _ _ _ (c .before .before .before .before .before .loop .at) (c .before .before .before .before .before .loop .inv .1 .0) _ (c .before .before .before .span-at2 .ensures) _ (c .before .before .is-item2 .ensures) (c .before .before .before .before .before .before .before .if1 .left) _ (c .before .before .before .before .before .before .count .ensures) (omega arith) (c .before .before .before .before .before .loop .inv .1 .1) (c .before .if3 .taken) _ (c .item-count .ensures)
 
 returns-4 : tie.Need-returns-4 Inv-loop μ-loop
 returns-4 c = search items-fail
