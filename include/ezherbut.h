@@ -65,7 +65,7 @@ enum {
 
 /* The further cells of ezh_step's results. */
 enum {
-    /* EZH_WHAT_FOUND a cluster, EZH_WHAT_OVER the end, EZH_WHAT_BAD a refusal */
+    /* EZH_WHAT_FOUND a cluster, EZH_WHAT_OVER the end, EZH_WHAT_REFUSED a refusal */
     EZH_STEP_WHAT = 3,
     /* the next place; with a refusal the place that was given */
     EZH_STEP_PLACE = 4,
@@ -135,8 +135,8 @@ uint64_t ezh_check(uint64_t parser, EZH_TEXT_PARAMETERS, uint64_t *results, size
  * the text has tokens. Simple and Myanmar have a token for each record, the complex parsers at most three: six cells for each record
  * are always enough.
  */
-uint64_t ezh_run(uint64_t parser, uint64_t mode, EZH_TEXT_PARAMETERS, uint32_t *out_scalars, size_t out_scalars_count,
-                 uint8_t *out_classes, size_t out_classes_count, uint16_t *out_clusters, size_t out_clusters_count,
+uint64_t ezh_run(uint64_t parser, uint64_t mode, EZH_TEXT_PARAMETERS, uint32_t *oscalars, size_t oscalars_count,
+                 uint8_t *oclasses, size_t oclasses_count, uint16_t *oclusters, size_t oclusters_count,
                  uint64_t *results, size_t results_count);
 
 /*
@@ -147,9 +147,9 @@ uint64_t ezh_run(uint64_t parser, uint64_t mode, EZH_TEXT_PARAMETERS, uint32_t *
  * cells. With a refusal the place is the one given, passed is 0, and there is no character.
  * Every call judges the whole text anew; a text that is segmented whole is better run by ezh_run.
  */
-uint64_t ezh_step(uint64_t parser, uint64_t mode, size_t place, EZH_TEXT_PARAMETERS, uint32_t *cluster_scalars,
-                  size_t cluster_scalars_count, uint8_t *cluster_classes, size_t cluster_classes_count, uint16_t *cluster_records,
-                  size_t cluster_records_count, uint16_t *cluster_noted, size_t cluster_noted_count, uint64_t *results,
+uint64_t ezh_step(uint64_t parser, uint64_t mode, size_t place, EZH_TEXT_PARAMETERS, uint32_t *cscalars,
+                  size_t cscalars_count, uint8_t *cclasses, size_t cclasses_count, uint16_t *crecords,
+                  size_t crecords_count, uint16_t *cnoted, size_t cnoted_count, uint64_t *results,
                   size_t results_count);
 
 /* The check of the two columns of a word run: word class and pictograph. Results: EZH_CHECK_CELLS. Refusals: 9 (results), 1, 2, 4. */

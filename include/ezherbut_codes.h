@@ -1,4 +1,4 @@
-/* The codes of document 01's lists and of the answers. Written by tools/codes from the crates' definitions; do not edit. */
+/* The codes of the class lists and the numbers of the answers. Written by tools/codes from the crates' definitions; do not edit. */
 #ifndef EZHERBUT_CODES_H
 #define EZHERBUT_CODES_H
 
@@ -165,7 +165,7 @@ enum {
 enum {
     EZH_WHAT_FOUND = 0,
     EZH_WHAT_OVER = 1,
-    EZH_WHAT_BAD = 2,
+    EZH_WHAT_REFUSED = 2,
 };
 
 /* A cluster's emoji. */

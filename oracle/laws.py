@@ -16,7 +16,7 @@ def stepping_twin(line):
 
 
 def rust_judgement(line, answer):
-    """The Rust's answer for a line: `-` where document 01 refuses, None where the Rust has no
+    """The Rust's answer for a line: `-` where the text is refused, None where the Rust has no
     say (whole mode; a full run without room)."""
     kind, *rest = line.split(";")
     if rest[:1] == ["whole"]:

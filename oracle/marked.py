@@ -1,5 +1,5 @@
 #!/usr/bin/env python3
-"""The sixteen marked cases of document 01, as its table has them. As a command it prints whether
+"""The sixteen marked cases, as the table of SCOPE 9.1 has them. As a command it prints whether
 they hold of the reading, P01 ok to P16 ok, and fails where one does not."""
 
 import argparse

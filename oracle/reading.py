@@ -1,15 +1,15 @@
-"""An independent reading of document 01: both modes, the words, the refusals.
+"""A second reading of what is promised: both modes, the words, the refusals.
 
-Written from document 01's text, to be held beside it; sentences in quotation marks are its
-own. What each parser accepts is read from the Rust, function by function ("in crate mode
-document 000 decides"). It knows nothing of the layout of cases and answers, which is in
-cases.py; cases.py and marked.py are the commands that ask it.
+Written apart from the Rattle code and its definitions, to be held beside docs/SCOPE.md, whose
+sections it cites. What each parser accepts is read from the Rust, function by function, which
+in crate mode is right by definition (SCOPE 1.1). It knows nothing of the layout of cases and
+answers, which is in cases.py; cases.py and marked.py are the commands that ask it.
 """
 
 from functools import lru_cache
 from typing import NamedTuple
 
-# ---- The lent text: lists of codes ----------------------------------------------------------
+# ---- The lent text: lists of codes (SCOPE 2.2) ----------------------------------------------
 
 CLUSTER_BREAK = "XX CN CR LF L V T LV LVT RI EX SM ZWJ PP".split()
 USE = """B CMAbv CMBlw CS FAbv FBlw FM FPst GB H HN IND MAbv MBlw MPre MPst N O R Rsv S SMAbv
@@ -65,7 +65,7 @@ class Refusal(NamedTuple):
     side: str = "-"
 
 
-# ---- Refusals of the library, in testing order ----------------------------------------------
+# ---- Refusals of the library, in their order (SCOPE 5) --------------------------------------
 
 
 def lengths_refusal(*sets):
@@ -86,7 +86,7 @@ def in_lists(codes, lists):
 
 
 def barred_joiner(scalar, use):
-    """6: "U+034F with USE class CMBlw, SUB, H, FM or a class whose name starts with …"."""
+    """6: a U+034F with one of the USE classes of SCOPE 5.2, here by how their names start."""
     starts = ("FA", "FB", "FP", "M", "VA", "VB", "VP", "VM")
     return scalar == JOINER and (USE[use] in ("CMBlw", "SUB", "H", "FM") or USE[use].startswith(starts))
 
@@ -116,12 +116,12 @@ def record_refusal(record, part_count, parser):
 
 
 def is_split(record, parser, khmer):
-    """"If the script is Khmer, an unmarked U+17BE, 17BF, 17C0, 17C4 or 17C5 …"."""
+    """One of the five signs of SCOPE 3.1, unmarked, in the script Khmer."""
     return parser == "complex" and khmer and record.scalar in KHMER_SIGNS and not record.decompose
 
 
 def khmer_part_is_lent(record, parts):
-    """Against 7: the parts run is "exactly one part, U+17C1"."""
+    """Against 7: the parts are a single U+17C1."""
     return record.count == 1 and parts[record.first].scalar == 0x17C1
 
 
@@ -143,7 +143,7 @@ def check(records, parts, parser, khmer):
     return None
 
 
-# ---- The token stream -----------------------------------------------------------------------
+# ---- The token stream (SCOPE 3.1) -----------------------------------------------------------
 
 
 class Token(NamedTuple):
@@ -167,7 +167,7 @@ def record_token(record, index, parser):
 
 
 def part_token(part, index):
-    """"A part's emoji mark is no"; only the simple parser asks for selectors."""
+    """A part has no marks; only the simple parser asks for selectors."""
     return Token(part.scalar, USE[part.use], CLUSTER_BREAK[part.cluster_break],
                  CATEGORY[part.category], 0, 0, index)
 
@@ -213,19 +213,18 @@ class Call:
         self.pushed.append([token.scalar, shape, token.record, 0])
 
     def push(self, shape):
-        """"Push, then step."."""
+        """Push, then step (SCOPE 6.1)."""
         self.put(self.token, shape)
         self.step()
 
     def note(self):
-        """Noted "directly after" the last pushed character, "and not pushed"."""
+        """Noted directly after the last pushed character, and not pushed (SCOPE 4.1)."""
         self.pushed[-1][3] += 1
         self.step()
 
     def step(self):
         if len(self.pushed) == CLUSTER_SIZE:
-            # Crate: "that token stays current". Whole: "a push to 32 passes its token and
-            # ends the call".
+            # Crate: the current token stays where it is (SCOPE 6.7). Whole: it is passed (6.9).
             if self.mode == WHOLE:
                 self.next = self.at + 1
             raise CallEnds
@@ -236,13 +235,13 @@ class Call:
         self.next = self.at
         self.token = self.tokens[self.at]
         if self.steps_over_joiners and self.token.scalar == JOINER:
-            # "a step onto it pushes it as Other and steps again, for as many as follow while
-            # there is room"
+            # it is taken as Other, and so are all that follow it directly, as long as there is
+            # room (SCOPE 6.2)
             self.push(OTHER)
 
     def ignoring_failure(self, action, *arguments):
-        """Crate mode goes on after a failure in a few places; whole mode never does:
-        "reaching the end of the text ends the call at once"."""
+        """Crate mode goes on after a failure in a few places; whole mode never does: there the
+        end of the text ends the call (SCOPE 6.9)."""
         try:
             action(*arguments)
         except CallEnds:
@@ -390,8 +389,9 @@ def myanmar(call):
 
 
 def kinzi(call):
-    """"U+1004, 101B or 105A, then 103A, then 1039": "three pushes, three steps whose failure is
-    ignored". Where the text ends there, crate mode goes on with the last token: repeat (b)."""
+    """U+1004, U+101B or U+105A, then U+103A, then U+1039 (SCOPE 6.8): three pushes, and three
+    steps whose failure the Rust does not look at. Where the text ends there, crate mode goes on
+    with the last token: repeat (b)."""
     three = call.tokens[call.at:call.at + 3]
     if three[0].scalar not in (0x1004, 0x101B, 0x105A) or [t.scalar for t in three[1:]] != [0x103A, 0x1039]:
         return
@@ -400,7 +400,7 @@ def kinzi(call):
     for _ in three:
         call.ignoring_failure(call.step)
     if len(call.pushed) == CLUSTER_SIZE:
-        # "the port ends the call with 32, before the class is looked at"
+        # the call ends with the 32, before the class is looked at (SCOPE 6.8)
         raise CallEnds
 
 
@@ -464,7 +464,8 @@ def complex_(call):
     elif kind in ("IND", "Rsv", "WJ"):
         with_selector(call)
     elif kind in ("R", "CS"):
-        # "R and CS in complex take any next token that is no base as a broken member."
+        # R and CS take a syllable, or one token of any class but B and GB, which makes the
+        # cluster broken (SCOPE 6.6)
         call.push(REPH if kind == "R" else OTHER)
         standard(call)
     elif kind == "GB":
@@ -513,7 +514,7 @@ def standard_tail(call, is_potential_symbol):
     if is_potential_symbol and call.token.kind in ("SMAbv", "SMBlw"):
         symbol_marks(call)
         return
-    # "the results of the first CMAbv and CMBlw runs are ignored"
+    # the Rust does not look at the results of the first two runs (SCOPE 6.6)
     call.ignoring_failure(call.accept_many, "CMAbv")
     call.ignoring_failure(call.accept_many, "CMBlw")
     if ends_in_halant(call):
@@ -679,14 +680,14 @@ def pair_joins(a, b):
 
 
 def opens_triple(a, b, following):
-    """"The look-ahead is the next record only"; the record after b is then joined too."""
+    """The step looks one record ahead (SCOPE 7.2), and that record is then joined too."""
     return (a in AH_LETTER and b in ("ML",) + MID_NUM_LET_Q and following in AH_LETTER  # WB6, WB7
             or a == "HL" and b == "DQ" and following == "HL"  # WB7b, WB7c
             or a == "NU" and b in ("MN",) + MID_NUM_LET_Q and following == "NU")  # WB11, WB12
 
 
 def word_run(records, cells):
-    """Over (word class, pictograph): "checks 1, 2, 4 and 9, in that order"."""
+    """Over (word class, pictograph): 1, 2, 4, 9 (SCOPE 5.5)."""
     lengths = lengths_refusal([len(records)] * 2)
     if lengths:
         return lengths

@@ -1,6 +1,6 @@
 #!/usr/bin/env python3
 """That a comparison finds differences and reports them. The programs are functions here: the Rust is
-played by the reading, which answers `-` where document 01 refuses, as the Rust does."""
+played by the reading, which answers `-` where the text is refused, as the Rust judge does."""
 
 import subprocess
 import unittest

@@ -1,6 +1,6 @@
 #!/usr/bin/env python3
-"""What the readings of document 01 say of single texts, the refusals that a case cannot hold
-(columns of different lengths), and that the reading's lists of codes are those of crates/classes."""
+"""Corners of SCOPE 6 and 7, each on a single text, the refusals that a case cannot hold (columns of
+different lengths), and that the reading's lists of codes are those of crates/classes."""
 
 import pathlib
 import sys
@@ -49,7 +49,7 @@ class Lengths(unittest.TestCase):
         self.assertIsNone(reading.lengths_refusal([4096] * 14, [0] * 4))
 
 
-class Readings(unittest.TestCase):
+class Corners(unittest.TestCase):
     def test_joiner_at_the_start_of_a_call(self):
         text = whole(case("M", 0, [MYANMAR_BY_KIND["C"]] + [JOINER] * 32))
         self.assertEqual([len(shapes) for shapes in classes(text)], [32, 1])

@@ -1,7 +1,7 @@
 #!/usr/bin/env python3
 """The published break test files of Unicode 15.0 as cases, and a checker of answers to them.
 
-A line that is a plain text by document 01's definition must agree; any other may differ where an
+A line that is a plain text (SCOPE 8.1) must agree; any other may differ where an
 entry of the known differences says so. Counts the lines for each entry; fails where a difference
 has none.
 """
@@ -69,7 +69,7 @@ def word_boundaries(_, answer):
     return [int(sign) for sign in answer.split(" ")]
 
 
-# ---- Plain texts, by document 01's definition -----------------------------------------------
+# ---- Plain texts (SCOPE 8.1) ----------------------------------------------------------------
 
 
 def neighbours(line):
@@ -77,8 +77,9 @@ def neighbours(line):
 
 
 def is_plain_cluster(line):
-    """"Only XX, EX, SM, ZWJ, CR, LF, CN; emoji only on XX; no EX, SM or ZWJ directly after CR,
-    LF or CN; no cluster of 32": the published lines are too short for 32."""
+    """Every cluster break is XX, CR, LF, CN, EX, SM or ZWJ; only XX has the emoji mark; none of
+    EX, SM and ZWJ stands right behind a CR, LF or CN; and the published lines are too short for
+    a call that pushes 32."""
     return (set(line.kinds) <= {"XX", "EX", "SM", "ZWJ", "CR", "LF", "CN"}
             and all(kind == "XX" for kind, mark in zip(line.kinds, line.marks) if mark)
             and not any(a in CONTROLS and b in EXTENSIONS for a, b in neighbours(line))
@@ -86,7 +87,7 @@ def is_plain_cluster(line):
 
 
 def is_plain_word(line):
-    """"No Extend, FO, ZWJ; no RI directly after CR, LF or NL"."""
+    """No record is Extend, FO or ZWJ, and no RI stands right behind a CR, LF or NL."""
     return (not set(line.kinds) & set(IGNORED)
             and not any(a in NEWLINES and b == "RI" for a, b in neighbours(line)))
 

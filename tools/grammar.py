@@ -17,7 +17,11 @@ from dataclasses import dataclass
 
 ROOT = pathlib.Path(__file__).resolve().parent.parent
 # how strongly an operator binds, and whether it groups to the right
-OPERATORS = {"▸": (1, True), "∷": (2, True), "+": (3, False), "*": (4, False), "/": (4, False), "%": (4, False)}
+OPERATORS = {
+    "⇒": (1, True), "▸": (2, True), "||": (3, False), "∷": (4, True), "+": (5, False), "*": (6, False), "/": (6, False), "%": (6, False)
+}
+# the first sign of a row, `_⇒_∣_` or `_⇒_▹_`, and what can be its second, which says which of them it is
+ROW, SECOND_SIGNS = "⇒", ("∣", "▹")
 # the constructors of antt's libraries
 CONSTRUCTORS = {"true", "false", "[]", "∷"}
 TRUE, FALSE, EMPTY = ("true",), ("false",), ("[]",)
@@ -78,6 +82,7 @@ PRIMITIVES = [
     Primitive("/", 2, lambda a, b: a // b),
     Primitive("%", 2, lambda a, b: a % b),
     Primitive("eqb", 2, lambda a, b: TRUE if a == b else FALSE),
+    Primitive("||", 2, lambda a, b: TRUE if a == TRUE else b),
     Primitive("cond", 3, lambda test, a, b: a if test == TRUE else b),
     Primitive("getD", 3, lambda xs, place, default: next(itertools.islice(items(xs), place, None), default)),
 ]
@@ -215,7 +220,7 @@ def statements(text):
 
 
 def bare(name):
-    """An operator's name without the places of its arguments: ▸ for _▸_."""
+    """An operator's name without the places before and behind it: ▸ for _▸_, ⇒_∣ for _⇒_∣_."""
     return name.strip("_")
 
 
@@ -333,12 +338,21 @@ class Reader:
         left = self.application()
         while self.next in OPERATORS and OPERATORS[self.next][0] >= least:
             strength, rightward = OPERATORS[self.next]
-            left = (self.head(), left, self.term(strength if rightward else strength + 1))
+            head, *inner = self.row() if self.next == ROW else [self.head(self.next)]
+            left = (head, left, *inner, self.term(strength if rightward else strength + 1))
         return left
+
+    def row(self):
+        """The operator of a row, and the term between its signs."""
+        self.expect(ROW)
+        inner = self.term()
+        if self.next not in SECOND_SIGNS:
+            self.fail()
+        return self.head(f"{ROW}_{self.next}"), inner
 
     def application(self):
         function, args = self.atom(), []
-        while self.next not in OPERATORS and self.next not in ("", ")", "="):
+        while self.next not in OPERATORS and self.next not in ("", ")", "=", *SECOND_SIGNS):
             args.append(self.atom())
         return application(function, args) if args else function
 
@@ -351,7 +365,7 @@ class Reader:
             return self.function()
         if self.next[:1].isdigit():
             return int(self.take().replace("_", ""), 0)
-        head = self.head()
+        head = self.head(self.next)
         return head if isinstance(head, Variable) else (head,)
 
     def function(self):
@@ -362,9 +376,9 @@ class Reader:
         self.variables = outer
         return Lambda(variable, body)
 
-    def head(self):
-        """What the next word stands for. On the left side every name but a constructor's is a variable."""
-        known, variable = self.module.find(self.next), Variable(self.next)
+    def head(self, name):
+        """What a name stands for, whose last word is the next. On the left side every name but a constructor's is a variable."""
+        known, variable = self.module.find(name), Variable(name)
         if self.variables is None:
             known = known if isinstance(known, str) else variable
         elif variable in self.variables:

@@ -230,6 +230,7 @@ def origins(table):
         ("mathlib.Core.List", "List [] _∷_ map".split()),
         ("lib.Dec", "eqb ltb".split()),
         ("lib.ListN", ["getD"]),
+        ("Rattle.basics.specs.Sets", ["member"]),
         ("Rattle.classes.specs.declared.Shape.the-variants", shapes),
         ("Rattle.parse.specs.declared.Emoji.the-variants", "Default Text Color".split()),
         ("Rattle.parse.specs.declared.Space.the-variants", ["Newline"]),

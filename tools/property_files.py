@@ -3,7 +3,7 @@ import bz2
 import gzip
 import pathlib
 
-# the names of document 01 for values that Unicode names otherwise
+# the names of SCOPE 2.2 for values that Unicode names otherwise
 GRAPHEME_NAMES = {"Control": "CN", "Extend": "EX", "SpacingMark": "SM", "Regional_Indicator": "RI", "Prepend": "PP"}
 WORD_NAMES = {"Newline": "NL", "Format": "FO", "Katakana": "KA", "Hebrew_Letter": "HL", "Single_Quote": "SQ",
               "Double_Quote": "DQ", "MidLetter": "ML", "MidNum": "MN", "Numeric": "NU", "ExtendNumLet": "EX",

@@ -42,8 +42,8 @@ def first(ask, rule):
             return first(ask, a if ask(test) else b)
         case ("while", test, a):
             return before(first(ask, a), rule) if ask(test) else PASS
-        case ("part", a):
-            return within_part(first(ask, a))
+        case ("scope", a):
+            return within_scope(first(ask, a))
         case ("thrice", shape):
             take = RULE.value("take", shape)
             return Step(take[1], ("seq", take, take))
@@ -57,11 +57,11 @@ def before(done, rule):
     return Step(done.act, rule if done.left == SKIP else ("seq", done.left, rule))
 
 
-def within_part(done):
-    """A stop ends the part alone."""
+def within_scope(done):
+    """A stop ends the scope alone."""
     if not isinstance(done, Step):
         return PASS
-    return Step(done.act, SKIP if done.left == SKIP else ("part", done.left))
+    return Step(done.act, SKIP if done.left == SKIP else ("scope", done.left))
 
 
 # ---- Symbols and their samples ----------------------------------------------------------------

@@ -1,4 +1,4 @@
-//! The codes of document 01's lists and of the answers. Written by tools/codes from the crates' definitions; do not edit.
+//! The codes of the class lists and the numbers of the answers. Written by tools/codes from the crates' definitions; do not edit.
 
 /// Cluster break: how the simple parser, and every emoji extension, tells characters apart.
 pub mod cluster_break {
@@ -163,7 +163,7 @@ pub mod side {
 pub mod what {
     pub const FOUND: u64 = 0;
     pub const OVER: u64 = 1;
-    pub const BAD: u64 = 2;
+    pub const REFUSED: u64 = 2;
 }
 
 /// A cluster's emoji.

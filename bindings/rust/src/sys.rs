@@ -33,15 +33,15 @@ macro_rules! over_a_text {
 over_a_text! {
     fn ezh_check(parser: u64; results: *mut u64, results_count: usize);
     fn ezh_run(parser: u64, mode: u64;
-        scalars_out: *mut u32, scalars_out_count: usize,
-        classes_out: *mut u8, classes_out_count: usize,
-        clusters_out: *mut u16, clusters_out_count: usize,
+        oscalars: *mut u32, oscalars_count: usize,
+        oclasses: *mut u8, oclasses_count: usize,
+        oclusters: *mut u16, oclusters_count: usize,
         results: *mut u64, results_count: usize);
     fn ezh_step(parser: u64, mode: u64, place: usize;
-        cluster_scalars: *mut u32, cluster_scalars_count: usize,
-        cluster_classes: *mut u8, cluster_classes_count: usize,
-        cluster_records: *mut u16, cluster_records_count: usize,
-        cluster_noted: *mut u16, cluster_noted_count: usize,
+        cscalars: *mut u32, cscalars_count: usize,
+        cclasses: *mut u8, cclasses_count: usize,
+        crecords: *mut u16, crecords_count: usize,
+        cnoted: *mut u16, cnoted_count: usize,
         results: *mut u64, results_count: usize);
 }
 

@@ -82,7 +82,7 @@ fn refused(refusal: Refusal) -> String {
     format!("R {} {} {side}", refusal.number, refusal.index)
 }
 
-/// "a refusal of the check is handed out unchanged by every call": what a call refuses and the check does not is its own number, 8 or 9.
+/// A call passes the refusals of the check on as they are (SCOPE 5.5): what it refuses and the check does not is its own number, 8 or 9.
 fn hold_to_check<T>(check: Result<(), Refusal>, call: &Result<T, Refusal>) {
     match (check, call) {
         (Ok(()), Ok(_)) => {}

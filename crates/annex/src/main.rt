@@ -3,8 +3,8 @@
 // other line it is `?`.
 use cases::Kind;
 use cases::Number;
+use console::write;
 use libc::STDIN_FILENO;
-use libc::STDOUT_FILENO;
 
 // More than a line of the files has.
 type Cells = [u8; 64];
@@ -16,13 +16,13 @@ fn bit(b: bool) -> u8 {
 fn clusters(classes: &[u8], marks: &[u8], bits: &mut Cells) {
     let mut i: usize = 0;
     while i < 64 {
-        bits[i] = bit(plain::clusters::boundary(classes, marks, i));
+        bits[i] = bit(uax29::clusters::boundary(classes, marks, i));
         i += 1;
     }
 }
 
 // A cell as it is printed, or the end of the line where it is not.
-fn sign(bit: u8, shown: bool) -> u8 {
+fn digit(bit: u8, shown: bool) -> u8 {
     if shown { b'0' + bit % 2 } else { b'\n' }
 }
 
@@ -31,7 +31,7 @@ fn print(bits: &Cells, n: usize) {
     let mut text = [b'\n'; 65];
     let mut i: usize = 0;
     while i < 64 {
-        text[i] = sign(bits[i], i < n);
+        text[i] = digit(bits[i], i < n);
         i += 1;
     }
     write_first(&text, n);
@@ -40,12 +40,12 @@ fn print(bits: &Cells, n: usize) {
 // n bytes and one more.
 fn write_first(text: &[u8], n: usize) {
     if n < text.len() {
-        io::write_all(STDOUT_FILENO, &text[..n + 1]);
+        write(&text[..n + 1]);
     }
 }
 
 fn not_of_layout() {
-    io::write_all(STDOUT_FILENO, b"?\n");
+    write(b"?\n");
 }
 
 fn answer_items(kind: u8, section: &[u8], items: usize) {
@@ -55,7 +55,7 @@ fn answer_items(kind: u8, section: &[u8], items: usize) {
     let n = cases::column8(section, 0, items, &mut classes);
     let m = cases::column8(section, 1, items, &mut marks);
     if kind == b'W' {
-        plain::words::boundaries(&classes[..n], &marks[..m], &mut bits);
+        uax29::words::boundaries(&classes[..n], &marks[..m], &mut bits);
     } else {
         clusters(&classes[..n], &marks[..m], &mut bits);
     }
@@ -75,8 +75,8 @@ fn answer_kind(kind: u8, section: &[u8], items: u32) {
 }
 
 fn answer(line: &[u8]) {
-    let kind = cases::sign(cases::part(line, b';', 0));
-    let section = cases::part(line, b';', 1);
+    let kind = cases::letter(cases::span(line, b';', 0));
+    let section = cases::span(line, b';', 1);
     match cases::count_items(section, Kind::Word) {
         Number::Value(items) => answer_kind(kind, section, items),
         Number::Nothing => not_of_layout(),
@@ -88,7 +88,7 @@ fn answer_all(input: &[u8]) {
     let mut turns = input.len();
     while turns > 0 {
         if at < input.len() {
-            answer(cases::part_at(input, at, b'\n'));
+            answer(cases::span_at(input, at, b'\n'));
         }
         at = cases::next_of(input, at, b'\n');
         turns -= 1;

@@ -1,12 +1,13 @@
 -- The lines as the code takes them apart: p, q and o are parts of the line, and n, a and b the numbers that were read of them.
 -- Assumes nothing.
-use Prim.Native.Nat.{ℕ, _≤_}
-use mathlib.Core.Path.{_≡_, refl, sym, _∙_, ap}
-use mathlib.Core.Bool.{Bool, true, false, cond, _||_}
-use mathlib.Core.List.{List, [], _∷_}
+use Prim.Native.Nat.{ℕ}
+use mathlib.Core.Path.{_≡_}
+use mathlib.Core.Bool.{Bool, true, false, cond}
+use mathlib.Core.List.{List}
 use lib.Dec.{eqb}
 use lib.ListN.{length, getD}
 use borrow.Author.Tests.{eq-eqb, ne-eqb}
+use Rattle.basics.proofs.Choices.{choices}
 use Rattle.classes.specs.declared.Mode.{Mode}
 use Rattle.records.specs.declared.Parser.{Parser}
 use Rattle.words.specs.declared.WordState.{WordState}
@@ -22,11 +23,10 @@ use Rattle.cases.specs.declared.numbers.Number.{Number}
 use Rattle.cases.specs.declared.numbers.Number.the-variants.{Value, Nothing}
 use Rattle.cases.specs.Items.{itemsOf, isItem, fieldOf}
 use Rattle.cases.specs.Lines.{skipped, askedOf, textIn, moded, textLine, wordsLine, stateOf, stepTo, nextLine, kindLine, lineOf}
-use Rattle.cases.specs.Numbers.{numberOf}
-use Rattle.cases.specs.Parts.{part, count, equal, sign}
-use Rattle.cases.proofs.Choices.{choices}
+use Rattle.cases.specs.Numbers.{numberOf, most16}
+use Rattle.cases.specs.Spans.{span, count, equal, letter}
 
--- what a call says of a part, said of the line
+-- what a call says of a span, said of the line
 pub same-of : (p q l : List ℕ) (t : Bool) → p ≡ q → t ≡ equal p l → t ≡ equal q l
 same-of p q l t f e = rw (← f) e
 
@@ -48,22 +48,22 @@ module _ (xs : List ℕ) (n : ℕ) (e : n ≡ count 32 xs) where
   unfolding skipped
   skipped-blank h = rw (← e, eq-eqb n _ h)
 
-  pub skipped-sign : (n ≡ length xs → ⊥) → (x : ℕ) → x ≡ getD xs 0 0 → eqb x 35 ≡ skipped xs
+  pub skipped-hash : (n ≡ length xs → ⊥) → (x : ℕ) → x ≡ getD xs 0 0 → eqb x 35 ≡ skipped xs
   unfolding skipped
-  skipped-sign h x f = rw (← e, ne-eqb n _ h, f)
+  skipped-hash h x f = rw (← e, ne-eqb n _ h, f)
 
 -- a text line
-module _ (parser : Parser) (mode : Mode) (full : Bool) (xs p : List ℕ) (n : Number) (fp : p ≡ part 59 3 xs) (en : n ≡ numberOf 10 65535 p) where
+module _ (parser : Parser) (mode : Mode) (full : Bool) (xs p : List ℕ) (n : Number) (fp : p ≡ span 59 3 xs) (en : n ≡ numberOf 10 most16 p) where
   pub text-no-number : n ≡ Nothing → NotOfLayout ≡ textIn parser mode full xs
   unfolding textIn
   text-no-number h = rw (← fp, ← en, h)
 
-  module _ (number : ℕ) (hn : n ≡ Value number) (q : List ℕ) (a : Number) (fq : q ≡ part 59 4 xs) (ea : a ≡ itemsOf Record q) where
+  module _ (number : ℕ) (hn : n ≡ Value number) (q : List ℕ) (a : Number) (fq : q ≡ span 59 4 xs) (ea : a ≡ itemsOf Record q) where
     pub text-no-records : a ≡ Nothing → NotOfLayout ≡ textIn parser mode full xs
     unfolding textIn
     text-no-records h = rw (← fp, ← en, hn, ← fq, ← ea, h)
 
-    module _ (records : ℕ) (ha : a ≡ Value records) (o : List ℕ) (b : Number) (fo : o ≡ part 59 5 xs) (eb : b ≡ itemsOf Part o) where
+    module _ (records : ℕ) (ha : a ≡ Value records) (o : List ℕ) (b : Number) (fo : o ≡ span 59 5 xs) (eb : b ≡ itemsOf Part o) where
       pub text-no-parts : b ≡ Nothing → NotOfLayout ≡ textIn parser mode full xs
       unfolding textIn
       text-no-parts h = rw (← fp, ← en, hn, ← fq, ← ea, ha, ← fo, ← eb, h)
@@ -74,7 +74,7 @@ module _ (parser : Parser) (mode : Mode) (full : Bool) (xs p : List ℕ) (n : Nu
 
 pub ruleset texts = (text-no-number, text-no-records, text-no-parts, text-read)
 
-module _ (kind : ℕ) (xs p : List ℕ) (s : ℕ) (fp : p ≡ part 59 2 xs) (es : s ≡ sign p) (a : Asked) (ea : a ≡ askedOf kind s) where
+module _ (kind : ℕ) (xs p : List ℕ) (s : ℕ) (fp : p ≡ span 59 2 xs) (es : s ≡ letter p) (a : Asked) (ea : a ≡ askedOf kind s) where
   pub text-asked : (parser : Parser) (full : Bool) → a ≡ Of parser full → (r : Line) → r ≡ moded parser full xs → r ≡ textLine kind xs
   unfolding textLine
   text-asked parser full h r e = rw (← fp, ← es, ← ea, h) e
@@ -84,12 +84,12 @@ module _ (kind : ℕ) (xs p : List ℕ) (s : ℕ) (fp : p ≡ part 59 2 xs) (es 
   text-nobody h = rw (← fp, ← es, ← ea, h)
 
 -- a word run
-module _ (xs p : List ℕ) (n : Number) (fp : p ≡ part 59 1 xs) (en : n ≡ numberOf 10 65535 p) where
+module _ (xs p : List ℕ) (n : Number) (fp : p ≡ span 59 1 xs) (en : n ≡ numberOf 10 most16 p) where
   pub words-no-number : n ≡ Nothing → NotOfLayout ≡ wordsLine xs
   unfolding wordsLine
   words-no-number h = rw (← fp, ← en, h)
 
-  module _ (size : ℕ) (hn : n ≡ Value size) (q : List ℕ) (a : Number) (fq : q ≡ part 59 2 xs) (ea : a ≡ itemsOf Word q) where
+  module _ (size : ℕ) (hn : n ≡ Value size) (q : List ℕ) (a : Number) (fq : q ≡ span 59 2 xs) (ea : a ≡ itemsOf Word q) where
     pub words-no-records : a ≡ Nothing → NotOfLayout ≡ wordsLine xs
     unfolding wordsLine
     words-no-records h = rw (← fp, ← en, hn, ← fq, ← ea, h)
@@ -106,12 +106,12 @@ pub state-read : (xs : List ℕ) (a b c d : ℕ) → a ≡ fieldOf 10 255 0 xs �
 unfolding stateOf
 state-read xs a b c d ea eb ec ed = rw (ea, eb, ec, ed)
 
-pub step-read : (xs p q : List ℕ) (s : WordState) (a b : ℕ) (next : Next) → p ≡ part 59 1 xs → s ≡ stateOf p → q ≡ part 59 2 xs → a ≡ fieldOf 10 255 0 q → b ≡ fieldOf 10 255 1 q
+pub step-read : (xs p q : List ℕ) (s : WordState) (a b : ℕ) (next : Next) → p ≡ span 59 1 xs → s ≡ stateOf p → q ≡ span 59 2 xs → a ≡ fieldOf 10 255 0 q → b ≡ fieldOf 10 255 1 q
     → Step s a b next ≡ stepTo xs next
 unfolding stepTo
 step-read xs p q s a b next fp es fq ea eb = rw (← fp, ← es, ← fq, ← ea, ← eb)
 
-module _ (xs p : List ℕ) (s : ℕ) (fp : p ≡ part 59 3 xs) (es : s ≡ sign p) where
+module _ (xs p : List ℕ) (s : ℕ) (fp : p ≡ span 59 3 xs) (es : s ≡ letter p) where
   pub next-end : s ≡ 45 → (r : Line) → r ≡ stepTo xs End → r ≡ nextLine xs
   unfolding nextLine
   next-end h r e = rw (← fp, ← es, eq-eqb s 45 h) e
@@ -133,6 +133,6 @@ module _ (xs : List ℕ) (t : Bool) (e : t ≡ skipped xs) where
   unfolding lineOf
   line-skipped h = rw (← e, h)
 
-  pub line-read : t ≡ false → (p : List ℕ) (s : ℕ) (r : Line) → p ≡ part 59 0 xs → s ≡ sign p → r ≡ kindLine s xs → r ≡ lineOf xs
+  pub line-read : t ≡ false → (p : List ℕ) (s : ℕ) (r : Line) → p ≡ span 59 0 xs → s ≡ letter p → r ≡ kindLine s xs → r ≡ lineOf xs
   unfolding lineOf
   line-read h p s r fp es k = rw (← e, h, ← fp, ← es) k

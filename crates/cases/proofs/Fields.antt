@@ -1,24 +1,25 @@
 -- Fields, items and their columns as the loops read them. Assumes nothing.
 use Prim.Native.Nat.{ℕ, zero, suc, _+_, _<_, _≤_}
 use mathlib.Core.Path.{_≡_, refl, sym, _∙_, ap}
-use mathlib.Core.Bool.{Bool, true, false, cond, _&&_}
-use mathlib.Core.List.{List, [], _∷_, _++_, append-assoc}
+use mathlib.Core.Bool.{Bool, true, false}
+use mathlib.Core.List.{List, _++_, append-assoc}
 use native.Mathlib.Numerals.{add-one}
 use native.Mathlib.Omega.{arith}
-use lib.Dec.{eqb, ltb}
+use lib.Dec.{eqb}
 use lib.ListN.{length, drop, set, length-append}
 use lib.Seq.{drop-cons, set-at}
 use borrow.Author.Tests.{eq-eqb, ne-eqb}
+use Rattle.basics.proofs.Sets.{every-more, every-fails}
+use Rattle.basics.specs.Sets.{every}
 use Rattle.cases.specs.declared.items.Kind.{Kind}
 use Rattle.cases.specs.declared.items.Kind.the-variants.{Record, Part, Word, State}
 use Rattle.cases.specs.declared.numbers.Number.{Number}
 use Rattle.cases.specs.declared.numbers.Number.the-variants.{Value, Nothing}
 use Rattle.cases.specs.Items.{commasOf, fits, recordField, partField, stateField, isField, fieldFits, isItem, itemFits, itemCount, itemsOf, fieldOf, cellOf, cells}
 use Rattle.cases.specs.Numbers.{numberOf}
-use Rattle.cases.specs.Parts.{part, count, allBelow, upTo, rest}
-use Rattle.cases.proofs.Choices.{all-more, all-fails}
+use Rattle.cases.specs.Spans.{span, count, upTo, rest}
 use Rattle.cases.proofs.Digits.{read-within}
-use Rattle.cases.proofs.Splits.{part-read}
+use Rattle.cases.proofs.Splits.{span-read}
 
 -- n is what was read of the digits
 module _ (radix most : ℕ) (xs : List ℕ) (n : Number) (e : n ≡ numberOf radix most xs) where
@@ -33,8 +34,8 @@ module _ (radix most : ℕ) (xs : List ℕ) (n : Number) (e : n ≡ numberOf rad
   pub value-within : (v : ℕ) → n ≡ Value v → v ≤ most
   value-within v h = read-within radix most xs v (sym e ∙ h)
 
--- p is the part of field k
-module _ (radix most k : ℕ) (item p : List ℕ) (f : p ≡ part 44 k item) (n : Number) (e : n ≡ numberOf radix most p) where
+-- p is the span of field k
+module _ (radix most k : ℕ) (item p : List ℕ) (f : p ≡ span 44 k item) (n : Number) (e : n ≡ numberOf radix most p) where
   pub field-value : (v : ℕ) → n ≡ Value v → v ≡ fieldOf radix most k item
   unfolding fieldOf
   field-value v h = rw (← f, ← e, h)
@@ -71,21 +72,21 @@ module _ (kind : Kind) (item : List ℕ) (n last : ℕ) (en : n ≡ count 44 ite
   item-uneven h = rw (← en, ← el, ne-eqb n last h)
 
   module _ (h : n ≡ last) (k : ℕ) where
-    pub item-fails : k ≤ last → (p : List ℕ) (t : Bool) → p ≡ part 44 k item → t ≡ isField kind k p → t ≡ false → false ≡ isItem kind item
+    pub item-fails : k ≤ last → (p : List ℕ) (t : Bool) → p ≡ span 44 k item → t ≡ isField kind k p → t ≡ false → false ≡ isItem kind item
     unfolding isItem fieldFits
     item-fails l p t ep et f =
         rw (← en, ← el, eq-eqb n last h)
         (let i : k < last + 1 = omega arith in
-        sym (all-fails (fieldFits kind item) (last + 1) k i (rw (← ep, ← et) f)))
+        sym (every-fails (fieldFits kind item) (last + 1) k i (rw (← ep, ← et) f)))
 
-    pub item-all : allBelow (fieldFits kind item) k ≡ true → k ≡ last + 1 → true ≡ isItem kind item
+    pub item-all : every (fieldFits kind item) k ≡ true → k ≡ last + 1 → true ≡ isItem kind item
     unfolding isItem
     item-all a f = rw (← en, ← el, eq-eqb n last h, ← f) (sym a)
 
-pub item-more : (kind : Kind) (item : List ℕ) (k : ℕ) (p : List ℕ) (t : Bool) → allBelow (fieldFits kind item) k ≡ true
-    → p ≡ part 44 k item → t ≡ isField kind k p → t ≡ true → allBelow (fieldFits kind item) (k + 1) ≡ true
+pub item-more : (kind : Kind) (item : List ℕ) (k : ℕ) (p : List ℕ) (t : Bool) → every (fieldFits kind item) k ≡ true
+    → p ≡ span 44 k item → t ≡ isField kind k p → t ≡ true → every (fieldFits kind item) (k + 1) ≡ true
 unfolding fieldFits
-item-more kind item k p t a ep et h = all-more (fieldFits kind item) k a (rw (← ep, ← et) h)
+item-more kind item k p t a ep et h = every-more (fieldFits kind item) k a (rw (← ep, ← et) h)
 
 pub none-counted : (kind : Kind) (xs : List ℕ) → length xs ≡ 0 → Value 0 ≡ itemsOf kind xs
 unfolding itemsOf
@@ -95,19 +96,19 @@ none-counted kind xs h = rw (eq-eqb _ _ h)
 module _ (kind : Kind) (xs : List ℕ) (i at : ℕ) (left : drop at xs ≡ rest 32 i xs) (p : List ℕ) (ep : p ≡ upTo 32 (drop at xs)) (t : Bool) (et : t ≡ isItem kind p) where
   here : t ≡ itemFits kind xs i
   unfolding itemFits
-  here = et ∙ ap (isItem kind) (part-read 32 xs i at left p ep)
+  here = et ∙ ap (isItem kind) (span-read 32 xs i at left p ep)
 
-  pub items-more : allBelow (itemFits kind xs) i ≡ true → t ≡ true → allBelow (itemFits kind xs) (i + 1) ≡ true
-  items-more a h = all-more (itemFits kind xs) i a (sym here ∙ h)
+  pub items-more : every (itemFits kind xs) i ≡ true → t ≡ true → every (itemFits kind xs) (i + 1) ≡ true
+  items-more a h = every-more (itemFits kind xs) i a (sym here ∙ h)
 
   pub items-fail : (length xs ≡ 0 → ⊥) → (last : ℕ) → last ≡ count 32 xs → i ≤ last → t ≡ false → Nothing ≡ itemsOf kind xs
   unfolding itemsOf
   items-fail z last e l h =
       rw (ne-eqb _ _ z, ← e)
       (let k : i < last + 1 = omega arith in
-      rw (all-fails (itemFits kind xs) (last + 1) i k (sym here ∙ h)))
+      rw (every-fails (itemFits kind xs) (last + 1) i k (sym here ∙ h)))
 
-  pub items-all : (length xs ≡ 0 → ⊥) → (last : ℕ) → last ≡ count 32 xs → i ≡ last → allBelow (itemFits kind xs) i ≡ true → t ≡ true → (c : ℕ) → c ≡ itemCount last → Value c ≡ itemsOf kind xs
+  pub items-all : (length xs ≡ 0 → ⊥) → (last : ℕ) → last ≡ count 32 xs → i ≡ last → every (itemFits kind xs) i ≡ true → t ≡ true → (c : ℕ) → c ≡ itemCount last → Value c ≡ itemsOf kind xs
   unfolding itemsOf
   items-all z last e l a h c ec = rw (ne-eqb _ _ z, ← e, ← l, items-more a h) (ap Value (ec ∙ ap itemCount (sym l)))
 
@@ -128,5 +129,5 @@ pub column-more : (radix most k : ℕ) (xs : List ℕ) (i at : ℕ) → drop at 
     → (out₀ out : List ℕ) → i < length out₀ → Filled (cellOf radix most k xs) out₀ i out → Filled (cellOf radix most k xs) out₀ (i + 1) (set out i v)
 unfolding cellOf
 column-more radix most k xs i at left p ep v ev out₀ out h e =
-    let f : v ≡ cellOf radix most k xs i = ev ∙ ap (fieldOf radix most k) (part-read 32 xs i at left p ep) in
+    let f : v ≡ cellOf radix most k xs i = ev ∙ ap (fieldOf radix most k) (span-read 32 xs i at left p ep) in
     rw f (filled-more (cellOf radix most k xs) out₀ out i h e)

@@ -1,5 +1,4 @@
 pub mod Asks
-pub mod Choices
 pub mod Digits
 pub mod Fields
 pub mod Splits

@@ -9,9 +9,10 @@ use lib.Dec.{eqb, ltb}
 use lib.ListN.{length, getD, take, drop, drop-of-length-le, length-drop}
 use lib.Seq.{drop-cons, drop-drop}
 use borrow.Author.Tests.{eq-eqb, ne-eqb, lt-ltb, le-ltb, ltb-false}
+use Rattle.basics.proofs.Sets.{every-more, every-fails}
+use Rattle.basics.specs.Sets.{every}
 use Rattle.records.proofs.Unique.{unique}
-use Rattle.cases.specs.Parts.{before, upTo, after, nextFrom, rest, part, count, allBelow, agree, equal}
-use Rattle.cases.proofs.Choices.{all-more, all-fails}
+use Rattle.cases.specs.Spans.{before, upTo, after, nextFrom, rest, span, count, agree, equal}
 
 -- at byte i, of the loops that look for a separator and that count them: k is what they answer
 module _ (s : ℕ) (xs : List ℕ) (i k : ℕ) where
@@ -56,7 +57,7 @@ unfolding before
 before-within s [] = omega arith
 before-within s (x ∷ xs) = let h : before s xs ≤ length xs = before-within s xs in within (eqb x s) (before s xs) (length xs) h
 
--- where a part ends, and where the next begins
+-- where a span ends, and where the next begins
 module _ (s : ℕ) (xs : List ℕ) (at end : ℕ) (e : end ≡ at + before s (drop at xs)) where
   pub next-found : end < length xs → end + 1 ≡ nextFrom s at xs
   unfolding nextFrom
@@ -66,18 +67,18 @@ module _ (s : ℕ) (xs : List ℕ) (at end : ℕ) (e : end ≡ at + before s (dr
   unfolding nextFrom
   next-none h = rw (← e, le-ltb _ _ h)
 
-  pub part-within : at ≤ length xs → end ≤ length xs
-  part-within h = omega (arith, before-within s (drop at xs), length-drop at xs)
+  pub span-within : at ≤ length xs → end ≤ length xs
+  span-within h = omega (arith, before-within s (drop at xs), length-drop at xs)
 
-  pub part-here : take (end - at) (drop at xs) ≡ upTo s (drop at xs)
+  pub span-here : take (end - at) (drop at xs) ≡ upTo s (drop at xs)
   unfolding upTo
-  part-here = let f : end - at ≡ before s (drop at xs) = omega arith in rw f
+  span-here = let f : end - at ≡ before s (drop at xs) = omega arith in rw f
 
-pub part-none : (s : ℕ) (xs : List ℕ) (at : ℕ) → length xs < at → [] ≡ upTo s (drop at xs)
+pub span-none : (s : ℕ) (xs : List ℕ) (at : ℕ) → length xs < at → [] ≡ upTo s (drop at xs)
 unfolding upTo before
-part-none s xs at h = let k : length xs ≤ at = omega arith in rw (drop-of-length-le xs k)
+span-none s xs at h = let k : length xs ≤ at = omega arith in rw (drop-of-length-le xs k)
 
--- the bytes that are left where the next part begins
+-- the bytes that are left where the next span begins
 pub next-after : (s at : ℕ) (xs : List ℕ) → drop (nextFrom s at xs) xs ≡ after s (drop at xs)
 unfolding after nextFrom
 next-after s at xs = go (ltb end (length xs)) refl ∙ sym (drop-drop (suc (before s (drop at xs))) at xs)
@@ -93,7 +94,7 @@ next-after s at xs = go (ltb end (length xs)) refl ∙ sym (drop-drop (suc (befo
         let m : length xs ≤ at + suc (before s (drop at xs)) = omega arith in
         drop-of-length-le xs l ∙ sym (drop-of-length-le xs m)
 
--- "Uniqueness is shown"
+-- no two answers of `next_of` fulfil its contract (SCOPE 10)
 pub next-of-unique : (s at : ℕ) (xs : List ℕ) (a b : ℕ) → a ≡ nextFrom s at xs → b ≡ nextFrom s at xs → a ≡ b
 next-of-unique s at xs = unique (nextFrom s at xs)
 
@@ -103,9 +104,9 @@ module _ (s : ℕ) (xs : List ℕ) (i at : ℕ) (e : drop at xs ≡ rest s i xs)
   unfolding rest
   rest-more next h = rw (add-one i, h) (next-after s at xs ∙ ap (after s) e)
 
-  pub part-read : (p : List ℕ) → p ≡ upTo s (drop at xs) → p ≡ part s i xs
-  unfolding part
-  part-read p h = h ∙ ap (upTo s) e
+  pub span-read : (p : List ℕ) → p ≡ upTo s (drop at xs) → p ≡ span s i xs
+  unfolding span
+  span-read p h = h ∙ ap (upTo s) e
 
 -- two texts compared byte by byte
 module _ (xs ys : List ℕ) where
@@ -116,12 +117,12 @@ module _ (xs ys : List ℕ) where
   module _ (h : length xs ≡ length ys) where
     pub equal-fails : (i : ℕ) → i < length xs → (getD xs i 0 ≡ getD ys i 0 → ⊥) → false ≡ equal xs ys
     unfolding equal agree
-    equal-fails i l n = rw (eq-eqb _ _ h) (sym (all-fails (agree xs ys) _ i l (ne-eqb _ _ n)))
+    equal-fails i l n = rw (eq-eqb _ _ h) (sym (every-fails (agree xs ys) _ i l (ne-eqb _ _ n)))
 
-    pub equal-all : (i : ℕ) → allBelow (agree xs ys) i ≡ true → i ≡ length xs → true ≡ equal xs ys
+    pub equal-all : (i : ℕ) → every (agree xs ys) i ≡ true → i ≡ length xs → true ≡ equal xs ys
     unfolding equal
     equal-all i a e = rw (eq-eqb _ _ h, ← e) (sym a)
 
-  pub equal-more : (i : ℕ) → allBelow (agree xs ys) i ≡ true → getD xs i 0 ≡ getD ys i 0 → allBelow (agree xs ys) (i + 1) ≡ true
+  pub equal-more : (i : ℕ) → every (agree xs ys) i ≡ true → getD xs i 0 ≡ getD ys i 0 → every (agree xs ys) (i + 1) ≡ true
   unfolding agree
-  equal-more i a e = all-more (agree xs ys) i a (eq-eqb _ _ e)
+  equal-more i a e = every-more (agree xs ys) i a (eq-eqb _ _ e)

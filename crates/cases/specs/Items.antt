@@ -4,12 +4,14 @@ use mathlib.Core.Bool.{Bool, cond, _&&_}
 use mathlib.Core.List.{List, [], _∷_, _++_}
 use lib.Dec.{eqb, ltb}
 use lib.ListN.{length}
+use Rattle.records.specs.Refusals.{most}
+use Rattle.basics.specs.Sets.{every}
 use Rattle.cases.specs.declared.items.Kind.{Kind}
 use Rattle.cases.specs.declared.items.Kind.the-variants.{Record, Part, Word, State}
 use Rattle.cases.specs.declared.numbers.Number.{Number}
 use Rattle.cases.specs.declared.numbers.Number.the-variants.{Value, Nothing}
-use Rattle.cases.specs.Numbers.{numberOf, isNumber, orZero}
-use Rattle.cases.specs.Parts.{part, count, allBelow}
+use Rattle.cases.specs.Numbers.{numberOf, isNumber, orZero, most16}
+use Rattle.cases.specs.Spans.{span, count}
 
 -- "record = 14 fields with commas between", a part and a word state have 4, a word has 2
 abbrev pub commasOf : Kind → ℕ
@@ -24,7 +26,7 @@ fits radix most xs = isNumber (numberOf radix most xs)
 
 -- "hex up to FFFFFFFF, 11 decimals up to 255, a decimal up to 65,535 (first part), a decimal up to 255 (count)"
 unfoldable pub recordField : ℕ → List ℕ → Bool
-recordField k xs = cond (eqb k 0) (fits 16 4294967295 xs) (cond (eqb k 12) (fits 10 65535 xs) (fits 10 255 xs))
+recordField k xs = cond (eqb k 0) (fits 16 4294967295 xs) (cond (eqb k 12) (fits 10 most16 xs) (fits 10 255 xs))
 
 -- "hex up to FFFFFFFF and 3 decimals up to 255"
 unfoldable pub partField : ℕ → List ℕ → Bool
@@ -42,31 +44,35 @@ isField Word k xs = fits 10 255 xs
 isField State k xs = stateField k xs
 
 unfoldable pub fieldFits : Kind → List ℕ → ℕ → Bool
-fieldFits kind item k = isField kind k (part 44 k item)
+fieldFits kind item k = isField kind k (span 44 k item)
 
 unfoldable pub isItem : Kind → List ℕ → Bool
-isItem kind item = eqb (count 44 item) (commasOf kind) && allBelow (fieldFits kind item) (commasOf kind + 1)
+isItem kind item = eqb (count 44 item) (commasOf kind) && every (fieldFits kind item) (commasOf kind + 1)
 
 unfoldable pub itemFits : Kind → List ℕ → ℕ → Bool
-itemFits kind xs i = isItem kind (part 32 i xs)
+itemFits kind xs i = isItem kind (span 32 i xs)
+
+-- one item more than a text may have: enough to be refused
+abbrev pub tooMany : ℕ
+tooMany = 4097
 
 -- one more than the blanks; 4,097 stands for any number above 4,096
 unfoldable pub itemCount : ℕ → ℕ
-itemCount blanks = cond (ltb blanks 4096) (blanks + 1) 4097
+itemCount blanks = cond (ltb blanks most) (blanks + 1) tooMany
 
 -- "empty, or items with exactly one blank between, none before or after": their number
 unfoldable pub itemsOf : Kind → List ℕ → Number
 itemsOf kind xs =
     cond (eqb (length xs) 0) (Value 0)
-    (cond (allBelow (itemFits kind xs) (count 32 xs + 1)) (Value (itemCount (count 32 xs))) Nothing)
+    (cond (every (itemFits kind xs) (count 32 xs + 1)) (Value (itemCount (count 32 xs))) Nothing)
 
 -- the value of field k of an item
 unfoldable pub fieldOf : ℕ → ℕ → ℕ → List ℕ → ℕ
-fieldOf radix most k item = orZero (numberOf radix most (part 44 k item))
+fieldOf radix most k item = orZero (numberOf radix most (span 44 k item))
 
 -- field k of item i
 unfoldable pub cellOf : ℕ → ℕ → ℕ → List ℕ → ℕ → ℕ
-cellOf radix most k xs i = fieldOf radix most k (part 32 i xs)
+cellOf radix most k xs i = fieldOf radix most k (span 32 i xs)
 
 -- the cells of the first n items
 unfoldable pub cells : (ℕ → ℕ) → ℕ → List ℕ

@@ -15,13 +15,12 @@ use Rattle.cases.specs.declared.lines.Line.{Line}
 use Rattle.cases.specs.declared.lines.Line.the-variants.{Skipped, NotOfLayout, Text, Words, Step}
 use Rattle.cases.specs.declared.lines.Asked.{Asked}
 use Rattle.cases.specs.declared.lines.Asked.the-variants.{Of, Nobody}
-use Rattle.cases.specs.declared.items.Kind.{Kind}
 use Rattle.cases.specs.declared.items.Kind.the-variants.{Record, Part, Word, State}
 use Rattle.cases.specs.declared.numbers.Number.{Number}
 use Rattle.cases.specs.declared.numbers.Number.the-variants.{Value, Nothing}
 use Rattle.cases.specs.Items.{itemsOf, isItem, fieldOf}
-use Rattle.cases.specs.Numbers.{numberOf}
-use Rattle.cases.specs.Parts.{part, count, equal, sign}
+use Rattle.cases.specs.Numbers.{numberOf, most16}
+use Rattle.cases.specs.Spans.{span, count, equal, letter}
 
 -- "A line without bytes, one of blanks (U+0020) only, and one whose first byte is # are skipped"
 unfoldable pub skipped : List ℕ → Bool
@@ -57,20 +56,20 @@ textWith parser mode full Nothing records parts = NotOfLayout
 
 unfoldable pub textIn : Parser → Mode → Bool → List ℕ → Line
 textIn parser mode full xs =
-    textWith parser mode full (numberOf 10 65535 (part 59 3 xs)) (itemsOf Record (part 59 4 xs)) (itemsOf Part (part 59 5 xs))
+    textWith parser mode full (numberOf 10 most16 (span 59 3 xs)) (itemsOf Record (span 59 4 xs)) (itemsOf Part (span 59 5 xs))
 
 -- crate or whole, letter by letter
 unfoldable pub moded : Parser → Bool → List ℕ → Line
 moded parser full xs =
-    cond (equal (part 59 1 xs) (99 ∷ 114 ∷ 97 ∷ 116 ∷ 101 ∷ [])) (textIn parser Crate full xs)
-    (cond (equal (part 59 1 xs) (119 ∷ 104 ∷ 111 ∷ 108 ∷ 101 ∷ [])) (textIn parser Whole full xs) NotOfLayout)
+    cond (equal (span 59 1 xs) (99 ∷ 114 ∷ 97 ∷ 116 ∷ 101 ∷ [])) (textIn parser Crate full xs)
+    (cond (equal (span 59 1 xs) (119 ∷ 104 ∷ 111 ∷ 108 ∷ 101 ∷ [])) (textIn parser Whole full xs) NotOfLayout)
 
 abbrev pub askedLine : Asked → List ℕ → Line
 askedLine (Of parser full) xs = moded parser full xs
 askedLine Nobody xs = NotOfLayout
 
 unfoldable pub textLine : ℕ → List ℕ → Line
-textLine kind xs = askedLine (askedOf kind (sign (part 59 2 xs))) xs
+textLine kind xs = askedLine (askedOf kind (letter (span 59 2 xs))) xs
 
 abbrev pub wordsWith : Number → Number → Line
 wordsWith (Value size) (Value records) = Words size records
@@ -78,14 +77,14 @@ wordsWith (Value size) Nothing = NotOfLayout
 wordsWith Nothing records = NotOfLayout
 
 unfoldable pub wordsLine : List ℕ → Line
-wordsLine xs = wordsWith (numberOf 10 65535 (part 59 1 xs)) (itemsOf Word (part 59 2 xs))
+wordsLine xs = wordsWith (numberOf 10 most16 (span 59 1 xs)) (itemsOf Word (span 59 2 xs))
 
 unfoldable pub stateOf : List ℕ → WordState
 stateOf xs =
     record { first = eqb (fieldOf 10 255 0 xs) 1; previous = fieldOf 10 255 1 xs; prevent = eqb (fieldOf 10 255 2 xs) 1; count = fieldOf 10 255 3 xs }
 
 unfoldable pub stepTo : List ℕ → Next → Line
-stepTo xs next = Step (stateOf (part 59 1 xs)) (fieldOf 10 255 0 (part 59 2 xs)) (fieldOf 10 255 1 (part 59 2 xs)) next
+stepTo xs next = Step (stateOf (span 59 1 xs)) (fieldOf 10 255 0 (span 59 2 xs)) (fieldOf 10 255 1 (span 59 2 xs)) next
 
 abbrev pub stepWith : List ℕ → Number → Line
 stepWith xs (Value class) = stepTo xs (Class class)
@@ -93,10 +92,10 @@ stepWith xs Nothing = NotOfLayout
 
 -- "next is - or a decimal up to 255"
 unfoldable pub nextLine : List ℕ → Line
-nextLine xs = cond (eqb (sign (part 59 3 xs)) 45) (stepTo xs End) (stepWith xs (numberOf 10 255 (part 59 3 xs)))
+nextLine xs = cond (eqb (letter (span 59 3 xs)) 45) (stepTo xs End) (stepWith xs (numberOf 10 255 (span 59 3 xs)))
 
 unfoldable pub stepLine : List ℕ → Line
-stepLine xs = cond (isItem State (part 59 1 xs)) (cond (isItem Word (part 59 2 xs)) (nextLine xs) NotOfLayout) NotOfLayout
+stepLine xs = cond (isItem State (span 59 1 xs)) (cond (isItem Word (span 59 2 xs)) (nextLine xs) NotOfLayout) NotOfLayout
 
 -- the kinds, by the number of semicolons
 unfoldable pub kindLine : ℕ → List ℕ → Line
@@ -106,4 +105,4 @@ kindLine kind xs =
     (cond (eqb (count 59 xs) 3) (cond (eqb kind 119) (stepLine xs) NotOfLayout) NotOfLayout))
 
 unfoldable pub lineOf : List ℕ → Line
-lineOf xs = cond (skipped xs) Skipped (kindLine (sign (part 59 0 xs)) xs)
+lineOf xs = cond (skipped xs) Skipped (kindLine (letter (span 59 0 xs)) xs)

@@ -8,6 +8,10 @@ use Rattle.cases.specs.declared.numbers.Base.the-variants.{Decimal, Hexa
 use Rattle.cases.specs.declared.numbers.Number.{Number}
 use Rattle.cases.specs.declared.numbers.Number.the-variants.{Value, Nothing}
 
+-- the most that a first part and a count of cells can be, two bytes
+abbrev pub most16 : ℕ
+most16 = 65535
+
 abbrev pub radixOf : Base → ℕ
 radixOf Decimal = 10
 radixOf Hexadecimal = 16

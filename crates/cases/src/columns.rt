@@ -1,30 +1,32 @@
 // The columns of a text: one field of each item.
 use crate::numbers::Base;
+use crate::numbers::MOST16;
 use crate::numbers::Number;
 use crate::numbers::read_number;
-use crate::parts::next_of;
-use crate::parts::part;
-use crate::parts::part_at;
+use crate::spans::next_of;
+use crate::spans::span;
+use crate::spans::span_at;
 ghost use mathlib.Core.Path.{_≡_};
 ghost use mathlib.Core.List.{_++_};
 ghost use Prim.Native.Nat.{min, _≤_};
 ghost use lib.ListN.{length, drop};
+ghost use Rattle.cases.specs.Numbers.{most16};
 ghost use Rattle.io.specs.Counts.{Counts};
 ghost use Rattle.cases.specs.Items.{fieldOf, cellOf, cells};
 
 pub fn field8(item: &[u8], k: usize) -> u8
     ensures { λ r. ⌜ r ≡ fieldOf 10 255 k (now (item .entry)) ⌝ }
 {
-    match read_number(part(item, b',', k), Base::Decimal, 255) {
+    match read_number(span(item, b',', k), Base::Decimal, 255) {
         Number::Value(v) => v as u8,
         Number::Nothing => 0,
     }
 }
 
 pub fn field16(item: &[u8], k: usize) -> u16
-    ensures { λ r. ⌜ r ≡ fieldOf 10 65535 k (now (item .entry)) ⌝ }
+    ensures { λ r. ⌜ r ≡ fieldOf 10 most16 k (now (item .entry)) ⌝ }
 {
-    match read_number(part(item, b',', k), Base::Decimal, 65535) {
+    match read_number(span(item, b',', k), Base::Decimal, MOST16) {
         Number::Value(v) => v as u16,
         Number::Nothing => 0,
     }
@@ -33,7 +35,7 @@ pub fn field16(item: &[u8], k: usize) -> u16
 pub fn field32(item: &[u8], k: usize) -> u32
     ensures { λ r. ⌜ r ≡ fieldOf 16 4294967295 k (now (item .entry)) ⌝ }
 {
-    match read_number(part(item, b',', k), Base::Hexadecimal, 0xFFFFFFFF) {
+    match read_number(span(item, b',', k), Base::Hexadecimal, 0xFFFFFFFF) {
         Number::Value(v) => v,
         Number::Nothing => 0,
     }
@@ -56,7 +58,7 @@ pub fn column8(section: &[u8], k: usize, n: usize, out: &mut [u8]) -> usize
     let mut at: usize = 0;
     let mut i: usize = 0;
     while i < most {
-        out[i] = field8(part_at(section, at, b' '), k);
+        out[i] = field8(span_at(section, at, b' '), k);
         at = next_of(section, at, b' ');
         i += 1;
     }
@@ -66,13 +68,13 @@ pub fn column8(section: &[u8], k: usize, n: usize, out: &mut [u8]) -> usize
 pub fn column16(section: &[u8], k: usize, n: usize, out: &mut [u16]) -> usize
     ensures { λ r. ⌜ r ≡ min n (length (now (out .entry))) ⌝ }
     ensures { λ r. ⌜ Counts r (now (out .exit)) ⌝ }
-    ensures { λ r. ⌜ now (out .exit) ≡ cells (cellOf 10 65535 k (now (section .entry))) r ++ drop r (now (out .entry)) ⌝ }
+    ensures { λ r. ⌜ now (out .exit) ≡ cells (cellOf 10 most16 k (now (section .entry))) r ++ drop r (now (out .entry)) ⌝ }
 {
     let most = least(n, out.len());
     let mut at: usize = 0;
     let mut i: usize = 0;
     while i < most {
-        out[i] = field16(part_at(section, at, b' '), k);
+        out[i] = field16(span_at(section, at, b' '), k);
         at = next_of(section, at, b' ');
         i += 1;
     }
@@ -88,7 +90,7 @@ pub fn column32(section: &[u8], k: usize, n: usize, out: &mut [u32]) -> usize
     let mut at: usize = 0;
     let mut i: usize = 0;
     while i < most {
-        out[i] = field32(part_at(section, at, b' '), k);
+        out[i] = field32(span_at(section, at, b' '), k);
         at = next_of(section, at, b' ');
         i += 1;
     }

@@ -1,11 +1,13 @@
 // Items with one blank between, each of fields with one comma between: whether they are of the layout, and their number.
 use crate::numbers::Base;
+use crate::numbers::MOST16;
 use crate::numbers::Number;
 use crate::numbers::read_number;
-use crate::parts::count;
-use crate::parts::next_of;
-use crate::parts::part;
-use crate::parts::part_at;
+use crate::spans::count;
+use crate::spans::next_of;
+use crate::spans::span;
+use crate::spans::span_at;
+use records::MOST;
 ghost use mathlib.Core.Path.{_≡_};
 ghost use Prim.Native.Nat.{_≤_};
 ghost use Rattle.cases.specs.Numbers.{radixOf};
@@ -48,7 +50,7 @@ fn is_record_field(k: usize, digits: &[u8]) -> bool
         return fits(digits, Base::Hexadecimal, 0xFFFFFFFF);
     }
     if k == 12 {
-        return fits(digits, Base::Decimal, 65535);
+        return fits(digits, Base::Decimal, MOST16);
     }
     fits(digits, Base::Decimal, 255)
 }
@@ -94,7 +96,7 @@ pub fn is_item(item: &[u8], kind: Kind) -> bool
     }
     let mut k: usize = 0;
     while k <= last {
-        if is_field(kind, k, part(item, b',', k)) {
+        if is_field(kind, k, span(item, b',', k)) {
             k += 1;
         } else {
             return false;
@@ -103,16 +105,19 @@ pub fn is_item(item: &[u8], kind: Kind) -> bool
     true
 }
 
+// One item more than a text may have.
+pub const TOO_MANY: u32 = 4097;
+
 fn item_count(blanks: usize) -> u32
     ensures { λ r. ⌜ r ≡ itemCount blanks ⌝ }
 {
-    if blanks < 4096 {
+    if blanks < MOST {
         return blanks as u32 + 1;
     }
-    4097
+    TOO_MANY
 }
 
-// The number of items, or nothing where one is not of the layout. "Any number of items": 4,097 are enough to be refused.
+// The number of items, or nothing where one is not of the layout. Of any more than a text may have, `TOO_MANY` are enough to be refused.
 pub fn count_items(section: &[u8], kind: Kind) -> Number
     ensures { λ r. ⌜ r ≡ itemsOf kind (now (section .entry)) ⌝ }
 {
@@ -123,14 +128,14 @@ pub fn count_items(section: &[u8], kind: Kind) -> Number
     let mut at: usize = 0;
     let mut i: usize = 0;
     while i < last {
-        if is_item(part_at(section, at, b' '), kind) {
+        if is_item(span_at(section, at, b' '), kind) {
             at = next_of(section, at, b' ');
             i += 1;
         } else {
             return Number::Nothing;
         }
     }
-    if is_item(part_at(section, at, b' '), kind) {
+    if is_item(span_at(section, at, b' '), kind) {
         return Number::Value(item_count(last));
     }
     Number::Nothing

@@ -4,12 +4,13 @@ use crate::items::Kind;
 use crate::items::count_items;
 use crate::items::is_item;
 use crate::numbers::Base;
+use crate::numbers::MOST16;
 use crate::numbers::Number;
 use crate::numbers::read_number;
-use crate::parts::count;
-use crate::parts::part;
-use crate::parts::same;
-use crate::parts::sign;
+use crate::spans::count;
+use crate::spans::letter;
+use crate::spans::same;
+use crate::spans::span;
 use classes::Mode;
 use records::Parser;
 use records::cells::cell8;
@@ -31,7 +32,7 @@ pub enum Line {
         records: u32,
         parts: u32,
     },
-    // The columns are in part 2 of the line.
+    // The columns are in span 2 of the line.
     Words {
         cells: u32,
         records: u32,
@@ -141,13 +142,13 @@ fn asked_of(kind: u8, script: u8) -> Asked
 fn text_in(line: &[u8], parser: Parser, mode: Mode, full: bool) -> Line
     ensures { λ r. ⌜ r ≡ textIn parser mode full (now (line .entry)) ⌝ }
 {
-    let Number::Value(number) = read_number(part(line, b';', 3), Base::Decimal, 65535) else {
+    let Number::Value(number) = read_number(span(line, b';', 3), Base::Decimal, MOST16) else {
         return Line::NotOfLayout;
     };
-    let Number::Value(records) = count_items(part(line, b';', 4), Kind::Record) else {
+    let Number::Value(records) = count_items(span(line, b';', 4), Kind::Record) else {
         return Line::NotOfLayout;
     };
-    let Number::Value(parts) = count_items(part(line, b';', 5), Kind::Part) else {
+    let Number::Value(parts) = count_items(span(line, b';', 5), Kind::Part) else {
         return Line::NotOfLayout;
     };
     Line::Text {
@@ -163,7 +164,7 @@ fn text_in(line: &[u8], parser: Parser, mode: Mode, full: bool) -> Line
 fn text_moded(line: &[u8], parser: Parser, full: bool) -> Line
     ensures { λ r. ⌜ r ≡ moded parser full (now (line .entry)) ⌝ }
 {
-    let mode = part(line, b';', 1);
+    let mode = span(line, b';', 1);
     if same(mode, b"crate") {
         return text_in(line, parser, Mode::Crate, full);
     }
@@ -176,7 +177,7 @@ fn text_moded(line: &[u8], parser: Parser, full: bool) -> Line
 fn text_line(line: &[u8], kind: u8) -> Line
     ensures { λ r. ⌜ r ≡ textLine kind (now (line .entry)) ⌝ }
 {
-    let script = sign(part(line, b';', 2));
+    let script = letter(span(line, b';', 2));
     match asked_of(kind, script) {
         Asked::Of { parser, full } => text_moded(line, parser, full),
         Asked::Nobody => Line::NotOfLayout,
@@ -186,10 +187,10 @@ fn text_line(line: &[u8], kind: u8) -> Line
 fn words_line(line: &[u8]) -> Line
     ensures { λ r. ⌜ r ≡ wordsLine (now (line .entry)) ⌝ }
 {
-    let Number::Value(cells) = read_number(part(line, b';', 1), Base::Decimal, 65535) else {
+    let Number::Value(cells) = read_number(span(line, b';', 1), Base::Decimal, MOST16) else {
         return Line::NotOfLayout;
     };
-    let Number::Value(records) = count_items(part(line, b';', 2), Kind::Word) else {
+    let Number::Value(records) = count_items(span(line, b';', 2), Kind::Word) else {
         return Line::NotOfLayout;
     };
     Line::Words { cells, records }
@@ -209,9 +210,9 @@ fn state_of(item: &[u8]) -> WordState
 fn step_to(line: &[u8], next: Next) -> Line
     ensures { λ r. ⌜ r ≡ stepTo (now (line .entry)) next ⌝ }
 {
-    let word = part(line, b';', 2);
+    let word = span(line, b';', 2);
     Line::Step {
-        state: state_of(part(line, b';', 1)),
+        state: state_of(span(line, b';', 1)),
         class: field8(word, 0),
         pictograph: field8(word, 1),
         next,
@@ -221,8 +222,8 @@ fn step_to(line: &[u8], next: Next) -> Line
 fn next_line(line: &[u8]) -> Line
     ensures { λ r. ⌜ r ≡ nextLine (now (line .entry)) ⌝ }
 {
-    let next = part(line, b';', 3);
-    if sign(next) == b'-' {
+    let next = span(line, b';', 3);
+    if letter(next) == b'-' {
         return step_to(line, Next::End);
     }
     let Number::Value(class) = read_number(next, Base::Decimal, 255) else {
@@ -234,8 +235,8 @@ fn next_line(line: &[u8]) -> Line
 fn step_line(line: &[u8]) -> Line
     ensures { λ r. ⌜ r ≡ stepLine (now (line .entry)) ⌝ }
 {
-    if is_item(part(line, b';', 1), Kind::State) {
-        if is_item(part(line, b';', 2), Kind::Word) {
+    if is_item(span(line, b';', 1), Kind::State) {
+        if is_item(span(line, b';', 2), Kind::Word) {
             return next_line(line);
         }
     }
@@ -269,5 +270,5 @@ pub fn read(line: &[u8]) -> Line
     if is_skipped(line) {
         return Line::Skipped;
     }
-    kind_line(line, sign(part(line, b';', 0)))
+    kind_line(line, letter(span(line, b';', 0)))
 }

@@ -3,6 +3,9 @@ ghost use mathlib.Core.Path.{_≡_};
 ghost use Prim.Native.Nat.{_≤_};
 ghost use Rattle.cases.specs.Numbers.{radixOf, digitOf, numberOf};
 
+// The most that a first part and a count of cells can be, two bytes.
+pub(crate) const MOST16: u32 = 65535;
+
 pub enum Base {
     Decimal,
     Hexadecimal,

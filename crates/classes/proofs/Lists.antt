@@ -1,14 +1,15 @@
--- The five lists of document 01, and its list of shape classes: "codes count from 0", there are as many as the list's length says, and
+-- The five lists of SCOPE 2.2 and the shape classes of SCOPE 4.1: codes count from 0, there are as many as the list's length says, and
 -- no two are equal. One computed test says it of all six, and one law turns the test into the rule at each code.
 -- Assumes nothing.
 use Prim.Native.Nat.{ℕ, zero, suc, _+_, _<_}
 use mathlib.Core.Path.{_≡_, refl}
-use mathlib.Core.Bool.{Bool, true, false, _&&_}
+use mathlib.Core.Bool.{Bool, true, _&&_}
 use mathlib.Core.List.{List, [], _∷_, map}
 use native.Mathlib.Omega.{arith}
 use lib.Dec.{eqb}
 use lib.ListN.{length, getD}
 use borrow.Author.Tests.{eqb-true}
+use Rattle.basics.proofs.Tests.{both}
 use Rattle.classes.specs.ClusterBreak as ClusterBreak
 use Rattle.classes.specs.UseClass as UseClass
 use Rattle.classes.specs.MyanmarClass as MyanmarClass
@@ -20,10 +21,6 @@ use Rattle.classes.specs.Shape as Shape
 abbrev pub counts : ℕ → List ℕ → Bool
 counts i [] = true
 counts i (x ∷ xs) = eqb x i && counts (suc i) xs
-
-both : (a b : Bool) → (a && b) ≡ true → (a ≡ true) × (b ≡ true)
-both true b e = (refl, e)
-both false b e = absurd (let z : _≡_ {A = ℕ} 0 1 = cc in omega arith)
 
 code-from : (xs : List ℕ) (i : ℕ) → counts i xs ≡ true → (k : ℕ) → k < length xs → getD xs k 0 ≡ i + k
 code-from [] i e k h = absurd (omega arith)

@@ -1,4 +1,4 @@
--- Category: what becomes of a character that no grammar takes, class O. Document 01's codes, from 0 in its order.
+-- Category: what becomes of a character that no grammar takes, class O. The codes of SCOPE 2.2.
 use Prim.Native.Nat.{ℕ}
 use mathlib.Core.List.{List, [], _∷_}
 

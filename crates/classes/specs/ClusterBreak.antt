@@ -1,4 +1,4 @@
--- Cluster break: how the simple parser, and every emoji extension, tells characters apart. Document 01's codes, from 0 in its order.
+-- Cluster break: how the simple parser, and every emoji extension, tells characters apart. The codes of SCOPE 2.2.
 use Prim.Native.Nat.{ℕ}
 use mathlib.Core.List.{List, [], _∷_}
 

@@ -1,4 +1,4 @@
--- The mode as a number: crate mode, in which "document 000 decides", and "Whole mode (added)".
+-- The mode as a number: crate mode, which answers as the Rust does, and whole mode, which is ours (SCOPE 1.3).
 use Prim.Native.Nat.{ℕ}
 use Rattle.classes.specs.declared.Mode.{Mode}
 use Rattle.classes.specs.declared.Mode.the-variants.{Crate, Whole}

@@ -1,5 +1,4 @@
--- The class of a pushed character as a number: "classes from 0 are Base Mark Control Reph Kinzi Halant VPre VBlw VMPre
--- MedialRa Anusvara Vs Zwnj Zwj Other".
+-- The class of a pushed character as a number, that which a full run writes for it (SCOPE 4.1).
 use Prim.Native.Nat.{ℕ}
 use mathlib.Core.List.{List, [], _∷_}
 use Rattle.classes.specs.declared.Shape.{Shape}

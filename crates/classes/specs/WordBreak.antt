@@ -1,4 +1,4 @@
--- Word class: how the word machine tells characters apart. Document 01's codes, from 0 in its order.
+-- Word class: how the word machine tells characters apart. The codes of SCOPE 2.2.
 use Prim.Native.Nat.{ℕ}
 use mathlib.Core.List.{List, [], _∷_}
 

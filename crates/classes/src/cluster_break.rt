@@ -1,4 +1,4 @@
-// Cluster break: how the simple parser, and every emoji extension, tells characters apart. Document 01's codes, from 0 in its order.
+// Cluster break: how the simple parser, and every emoji extension, tells characters apart. The codes of SCOPE 2.2.
 ghost use mathlib.Core.Path.{_≡_};
 ghost use Rattle.classes.specs.ClusterBreak.{clusterBreaks};
 

@@ -1,5 +1,5 @@
-// The named values of document 01: the five lists of classes, the classes that a pushed character gets, the scalars that the parsers
-// name, and the two modes.
+// The named values of SCOPE: the five lists of classes, the classes that a pushed character gets, the scalars that the parsers name,
+// and the two modes.
 pub mod category;
 pub mod cluster_break;
 pub mod myanmar_class;
@@ -8,12 +8,25 @@ pub mod use_class;
 pub mod word_break;
 
 ghost use mathlib.Core.Path.{_≡_};
+ghost use Rattle.classes.specs.Mode.{modeCode};
 ghost use Rattle.classes.specs.Shape.{shapeCode};
 
-// "In crate mode document 000 decides"; whole mode is our own and repeats no character.
+// Crate mode answers as the Rust does; whole mode is ours and repeats no character (SCOPE 1.3).
 pub enum Mode {
     Crate,
     Whole,
+}
+
+impl Mode {
+    // The number by which a caller asks for the mode.
+    pub fn code(self) -> u8
+        ensures { λ r. ⌜ r ≡ modeCode self ⌝ }
+    {
+        match self {
+            Mode::Crate => 0,
+            Mode::Whole => 1,
+        }
+    }
 }
 
 // The class of a pushed character: the `ShapeClass` of the three Rust parsers.

@@ -1,4 +1,4 @@
-// Myanmar class: how the Myanmar parser tells characters apart. Document 01's codes, from 0 in its order; REST is any class that the parsers do not name.
+// Myanmar class: how the Myanmar parser tells characters apart. The codes of SCOPE 2.2; REST is any class that the parsers do not name.
 ghost use mathlib.Core.Path.{_≡_};
 ghost use Rattle.classes.specs.MyanmarClass.{myanmarClasses};
 

@@ -1,4 +1,4 @@
-// Word class: how the word machine tells characters apart. Document 01's codes, from 0 in its order.
+// Word class: how the word machine tells characters apart. The codes of SCOPE 2.2.
 ghost use mathlib.Core.Path.{_≡_};
 ghost use Rattle.classes.specs.WordBreak.{wordBreaks};
 

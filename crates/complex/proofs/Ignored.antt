@@ -1,12 +1,15 @@
--- "The results of the first CMAbv and CMBlw runs are ignored. With refusal 6 this pushes nothing more." Assumes nothing.
+-- The Rust does not look at the results of the first CMAbv and CMBlw runs. "Refusal 6 leaves no such text, and then going on pushes
+-- nothing" (SCOPE 6.6). Assumes nothing.
 use Prim.Native.Nat.{ℕ}
 use mathlib.Core.Path.{_≡_, refl, sym, _∙_, ap}
-use mathlib.Core.Bool.{Bool, true, false, cond}
+use mathlib.Core.Bool.{Bool, true, false, cond, false≢true}
 use mathlib.Core.List.{List, _∷_, map}
 use mathlib.Core.Logic.{_⊎_, inl, inr}
 use lib.Dec.{eqb, ltb}
 use lib.ListN.{length, List·getD-eq-default}
 use borrow.Author.Tests.{ltb-true, ltb-false}
+use Rattle.basics.proofs.Tests.{if-intro, by-test, neither}
+use Rattle.basics.specs.Sets.{member}
 use Rattle.classes.specs.declared.Mode.the-variants.{Crate}
 use Rattle.classes.specs.declared.Shape.the-variants.{Other}
 use Rattle.classes.specs.Scalar.{CGJ}
@@ -16,9 +19,8 @@ use Rattle.parse.specs.declared.Parse.{Parse}
 use Rattle.parse.specs.declared.Flow.the-variants.{GoOn}
 use Rattle.parse.specs.declared.Place.{Place}
 use Rattle.parse.specs.State.{tokenAt, atMost, loop, stepOf, pushOf, noteOf, begin, going, withFlow}
-use Rattle.parse.specs.Rule.{Rule, run, holds, take, many, is, oneOf, thriceOf, member}
+use Rattle.parse.specs.Rule.{Rule, run, holds, take, many, is, oneOf, thriceOf}
 use Rattle.parse.specs.Shared.{emojiMark, emojiExtension, emojiTurn, emojis, newline, otherArm}
-use Rattle.parse.proofs.Loop.{false-true, if-intro, by-test}
 use Rattle.parse.proofs.Keeps.{run-mode}
 use Rattle.parse.proofs.Steps.{going-flow}
 use Rattle.parse.proofs.Runs.{run-still, run-seq, run-stays}
@@ -26,19 +28,11 @@ use Rattle.complex.specs.Grammar.{given, byKind, baseVs, symbolMarks, co
 use Rattle.complex.specs.Ignored.{syllableClasses, Unbarred, ignoring, markedSyllableAsRust, onlyAbove, onlyBelow, Tree, plain, place, after, fork, ruleOf, runOf, clusterTree, clusterAsRust, unlessEnded, noMore, Same, ruled, pushes}
 use Rattle.complex.proofs.Spent.{Passed, many-spent, syllable-idle}
 
--- not a class of a list is not its head and not one of the others
-neither : (k x : ℕ) (xs : List ℕ) → member (x ∷ xs) k ≡ false → (eqb k x ≡ false) × (member xs k ≡ false)
-neither k x xs e = go (eqb k x) refl e
-  where
-    go : (b : Bool) → eqb k x ≡ b → cond b true (member xs k) ≡ false → (eqb k x ≡ false) × (member xs k ≡ false)
-    go true h n = absurd (false-true (sym n))
-    go false h n = (h, n)
-
 module _ (text : List ℕ) (unbarred : Unbarred text) (i : ℕ) where
   -- a U+034F is neither CMBlw nor of a class that the tail asks for
   joiner-none : scalarOf (tokenAt text i) ≡ CGJ → (eqb (kindOf (tokenAt text i)) CMBlw ≡ false) × (member syllableClasses (kindOf (tokenAt text i)) ≡ false)
   joiner-none e = by-test (ltb i (length text))
-      (λ h. neither (kindOf (tokenAt text i)) CMBlw syllableClasses (unbarred i (ltb-true i (length text) h) e))
+      (λ h. neither _ _ (unbarred i (ltb-true i (length text) h) e))
       (λ h. rw (List·getD-eq-default text 0 (ltb-false i (length text) h)) (refl, refl))
 
   -- nor is a token that ended the first run
@@ -55,10 +49,10 @@ go-on : (s : Parse) → going s ≡ true → withFlow GoOn s ≡ s
 go-on s g = ap (λ f. withFlow f s) (sym (going-flow (s .flow) g))
 
 ignoring-going : (r : Rule) (text : List ℕ) (s : Parse) → going s ≡ true → ignoring r text s ≡ withFlow GoOn (run r text s)
-ignoring-going r text s g = if-intro (λ q. q ≡ withFlow GoOn (run r text s)) (going s) _ _ (λ h. refl) (λ h. absurd (false-true (sym h ∙ g)))
+ignoring-going r text s g = if-intro (λ q. q ≡ withFlow GoOn (run r text s)) (going s) _ _ (λ h. refl) (λ h. absurd (false≢true (sym h ∙ g)))
 
 ignoring-still : (r : Rule) (text : List ℕ) (s : Parse) → going s ≡ false → ignoring r text s ≡ s
-ignoring-still r text s g = if-intro (λ q. q ≡ s) (going s) _ _ (λ h. absurd (false-true (sym g ∙ h))) (λ h. refl)
+ignoring-still r text s g = if-intro (λ q. q ≡ s) (going s) _ _ (λ h. absurd (false≢true (sym g ∙ h))) (λ h. refl)
 
 -- the same parse but for the flow, where the one goes on
 abbrev Alike : Parse → Parse → Type 0
@@ -85,7 +79,7 @@ module _ (khmer : Bool) (text : List ℕ) where
   marked-seq s = run-seq _ _ text s
 
   ended : (q : Parse) → going q ≡ false → withFlow GoOn q ≡ unlessEnded khmer text q
-  ended q h = if-intro (λ u. withFlow GoOn q ≡ u) (going q) _ _ (λ g. absurd (false-true (sym h ∙ g))) (λ g. refl)
+  ended q h = if-intro (λ u. withFlow GoOn q ≡ u) (going q) _ _ (λ g. absurd (false≢true (sym h ∙ g))) (λ g. refl)
 
   -- the rule does the same, but for the flow
   alike-marked : (s : Parse) → Alike (noMore khmer text s) (run (markedSyllable khmer) text s)
@@ -109,7 +103,7 @@ module _ (khmer : Bool) (text : List ℕ) where
         (λ h. syllable-idle text (withFlow GoOn q) (below-none text unbarred (q .at) (many-spent text CMBlw s m g .1 h)) khmer ∙ ended q h)
       where
         goes : (q : Parse) → going q ≡ true → run (syllable khmer) text q ≡ unlessEnded khmer text q
-        goes q h = if-intro (λ u. run (syllable khmer) text q ≡ u) (going q) _ _ (λ g. refl) (λ g. absurd (false-true (sym g ∙ h)))
+        goes q h = if-intro (λ u. run (syllable khmer) text q ≡ u) (going q) _ _ (λ g. refl) (λ g. absurd (false≢true (sym g ∙ h)))
 
     -- where the first run has ended
     above : (q : Parse) → going q ≡ false → Passed CMAbv (tokenAt text (q .at)) → run (syllable khmer) text (ignoring (many CMBlw) text (withFlow GoOn q)) ≡ unlessEnded khmer text (run (many CMBlw) text q)
@@ -122,7 +116,7 @@ module _ (khmer : Bool) (text : List ℕ) where
         ∙ ended q h
         ∙ ap (unlessEnded khmer text) (sym (run-still (many CMBlw) text q h))
 
-    -- "With refusal 6 this pushes nothing more", whatever the parse that comes to the two runs in crate mode.
+    -- With refusal 6 going on pushes nothing, whatever the parse that comes to the two runs in crate mode.
     pub no-more : (s : Parse) → s .mode ≡ Crate → markedSyllableAsRust khmer text s ≡ noMore khmer text s
     no-more s m = if-intro (λ u. markedSyllableAsRust khmer text s ≡ u) (going s) _ _
         (λ g. let spent = many-spent text CMAbv s m g in

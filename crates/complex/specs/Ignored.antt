@@ -1,10 +1,12 @@
--- "Complex: the results of the first CMAbv and CMBlw runs are ignored. With refusal 6 this pushes nothing more." What the Rust does at
--- that place, to be compared with the rule `markedSyllable`, which ends there as everywhere else.
+-- "The Rust does not look whether the first `CMAbv*` and `CMBlw*` came to 32 characters or to the end of the text, and goes on with the
+-- token that is still current" (SCOPE 6.6). What it does at that place, to be compared with the rule `markedSyllable`, which ends there
+-- as everywhere else.
 use Prim.Native.Nat.{ℕ, _<_}
 use mathlib.Core.Path.{_≡_}
 use mathlib.Core.Bool.{Bool, true, false, cond}
 use mathlib.Core.List.{List, [], _∷_, map}
 use lib.ListN.{length}
+use Rattle.basics.specs.Sets.{member}
 use Rattle.classes.specs.Scalar.{CGJ}
 use Rattle.classes.specs.declared.Mode.the-variants.{Crate}
 use Rattle.classes.specs.declared.Shape.the-variants.{Base, Reph, Vs, Other}
@@ -13,7 +15,7 @@ use Rattle.token.specs.Token.{scalarOf, kindOf, packed}
 use Rattle.parse.specs.declared.Parse.{Parse}
 use Rattle.parse.specs.declared.Flow.the-variants.{GoOn}
 use Rattle.parse.specs.State.{tokenAt, startPlace, clusterOf, placeOf, begin, going, withFlow}
-use Rattle.parse.specs.Rule.{Rule, Test, mark, choose, _▸_, run, holds, take, acceptAs, many, is, isEmoji, oneOf, member, setBroken}
+use Rattle.parse.specs.Rule.{Rule, Test, mark, choose, _▸_, run, holds, take, acceptAs, many, is, isEmoji, oneOf, setBroken}
 use Rattle.parse.specs.Shared.{emojis, otherArm}
 use Rattle.complex.specs.Grammar.{byKind, baseVs, symbolMarks, consonantMarks, isSymbolMark, number, symbol, syllable, cluster}
 
@@ -72,24 +74,34 @@ runOf f (fork p d e) text s =
     let b = runOf f e text s in
     cond (holds text p s) a b
 
+-- the rows of a tree, to be held beside those of the rule
+infixr 30 _then_
+abbrev _then_ : Rule → Tree → Tree
+rule then tree = after rule tree
+
+infixr 20 _⇒_∣_
+abbrev _⇒_∣_ : Test → Tree → Tree → Tree
+test ⇒ tree ∣ later = fork test tree later
+
+-- `standard` and its `standardTail`
 abbrev pub standardTree : Bool → Tree
 standardTree potential =
-    fork (oneOf (B ∷ GB ∷ []))
-    (after (take Base) (after (acceptAs VS Vs) (fork (isSymbolMark potential) (plain symbolMarks) place)))
-    (plain (mark setBroken ▸ byKind))
+    oneOf (B ∷ GB ∷ []) ⇒ take Base then acceptAs VS Vs then (isSymbolMark potential ⇒ plain symbolMarks ∣ place)
+    ∣ plain (mark setBroken ▸ byKind)
 
+-- `cluster` and its `letter`
 abbrev pub clusterTree : Tree
 clusterTree =
-    fork isEmoji (plain emojis)
-    (fork (is O) (plain otherArm)
-    (fork (oneOf (IND ∷ Rsv ∷ WJ ∷ [])) (plain baseVs)
-    (fork (is R) (after (take Reph) (standardTree false))
-    (fork (is CS) (after (take Other) (standardTree false))
-    (fork (is B) (standardTree false)
-    (fork (is GB) (standardTree true)
-    (fork (is N) (plain number)
-    (fork (is S) (plain symbol)
-    (standardTree false)))))))))
+    isEmoji ⇒ plain emojis
+    ∣ is O ⇒ plain otherArm
+    ∣ oneOf (IND ∷ Rsv ∷ WJ ∷ []) ⇒ plain baseVs
+    ∣ is R ⇒ take Reph then standardTree false
+    ∣ is CS ⇒ take Other then standardTree false
+    ∣ is B ⇒ standardTree false
+    ∣ is GB ⇒ standardTree true
+    ∣ is N ⇒ plain number
+    ∣ is S ⇒ plain symbol
+    ∣ standardTree false
 
 abbrev pub clusterAsRust : Bool → List ℕ → Parse → Parse
 clusterAsRust khmer = runOf (markedSyllableAsRust khmer) clusterTree

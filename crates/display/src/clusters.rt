@@ -1,14 +1,11 @@
 // What is drawn of a cluster: its scalars in brackets, then what is known of it.
-use libc::STDOUT_FILENO;
+use console::hex;
+use console::write;
 use parse::Cluster;
 use parse::Emoji;
 use parse::Info;
 use parse::Pushed;
 use parse::Space;
-
-pub(crate) fn write(text: &[u8]) {
-    io::write_all(STDOUT_FILENO, text);
-}
 
 fn emoji(e: Emoji) {
     match e {
@@ -28,7 +25,7 @@ fn space(s: Space) {
     }
 }
 
-fn signs(info: Info) {
+fn known(info: Info) {
     let e = info.emoji;
     let s = info.space;
     emoji(e);
@@ -39,7 +36,7 @@ fn signs(info: Info) {
 }
 
 fn character(c: Pushed) {
-    io::print_hex(STDOUT_FILENO, c.scalar as u64, 4);
+    hex(c.scalar);
 }
 
 fn characters(cluster: Cluster) {
@@ -59,6 +56,6 @@ pub(crate) fn draw(cluster: Cluster) {
     let info = cluster.info;
     write(b" [");
     characters(cluster);
-    signs(info);
+    known(info);
     write(b"]");
 }

@@ -4,7 +4,7 @@ mod text;
 
 use classes::Mode;
 use clusters::draw;
-use clusters::write;
+use console::write;
 use records::Parser;
 use segment::Segmenter;
 use segment::What;

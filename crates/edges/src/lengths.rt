@@ -1,12 +1,16 @@
 // Columns of one length, and one column of another.
 use crate::verdicts;
-use crate::verdicts::write;
+use console::write;
+use records::MOST;
 use records::Parser;
 use records::Verdict;
 use records::cells::first8;
 use records::cells::first16;
 use records::cells::first32;
 use records::check_in;
+
+// One cell more than a column may have.
+const LONGER: usize = 4097;
 
 // Column k is `other` cells long, the rest `usual`.
 fn column8(s: &[u8], column: u8, k: u8, other: usize, usual: usize) -> &[u8] {
@@ -67,54 +71,54 @@ fn check<'a>(
     )
 }
 
-// One sign for each of the 18 columns, and one more where none is of another length.
+// One digit or dot for each of the 18 columns, and one more where none is of another length.
 fn each_column<'a>(b: &'a [u8], h: &'a [u16], w: &'a [u32], other: usize, usual: usize) {
-    verdicts::decimal(other as u64);
+    console::decimal(other as u64);
     write(b" among ");
-    verdicts::decimal(usual as u64);
+    console::decimal(usual as u64);
     write(b" ");
     for k in 0..19u8 {
-        verdicts::sign(check(b, h, w, k, other, usual));
+        verdicts::digit(check(b, h, w, k, other, usual));
     }
     write(b"\n");
 }
 
 pub(crate) fn columns() {
-    let b = [0u8; 4097];
-    let h = [0u16; 4097];
-    let w = [0u32; 4097];
+    let b = [0u8; LONGER];
+    let h = [0u16; LONGER];
+    let w = [0u32; LONGER];
     each_column(&b, &h, &w, 0, 0);
     each_column(&b, &h, &w, 1, 0);
     each_column(&b, &h, &w, 0, 1);
-    each_column(&b, &h, &w, 4095, 4096);
-    each_column(&b, &h, &w, 4096, 4096);
-    each_column(&b, &h, &w, 4097, 4096);
-    each_column(&b, &h, &w, 4097, 4097);
+    each_column(&b, &h, &w, MOST - 1, MOST);
+    each_column(&b, &h, &w, MOST, MOST);
+    each_column(&b, &h, &w, LONGER, MOST);
+    each_column(&b, &h, &w, LONGER, LONGER);
 }
 
 fn word_columns(b: &[u8], words: usize, pictographs: usize) {
-    verdicts::decimal(words as u64);
+    console::decimal(words as u64);
     write(b" and ");
-    verdicts::decimal(pictographs as u64);
+    console::decimal(pictographs as u64);
     verdicts::verdict(records::check_words(first8(b, words), first8(b, pictographs)));
     write(b"\n");
 }
 
 fn word_cells(class: u8, pictograph: u8) {
-    verdicts::decimal(class as u64);
+    console::decimal(class as u64);
     write(b",");
-    verdicts::decimal(pictograph as u64);
+    console::decimal(pictograph as u64);
     verdicts::verdict(records::check_words(&[0, class], &[0, pictograph]));
     write(b"\n");
 }
 
 pub(crate) fn words() {
-    let b = [0u8; 4097];
+    let b = [0u8; LONGER];
     word_columns(&b, 0, 0);
-    word_columns(&b, 4096, 4096);
-    word_columns(&b, 4097, 4097);
-    word_columns(&b, 4097, 4096);
-    word_columns(&b, 4096, 4097);
+    word_columns(&b, MOST, MOST);
+    word_columns(&b, LONGER, LONGER);
+    word_columns(&b, LONGER, MOST);
+    word_columns(&b, MOST, LONGER);
     word_columns(&b, 1, 0);
     word_columns(&b, 0, 1);
     word_cells(0, 0);

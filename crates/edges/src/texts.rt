@@ -1,12 +1,12 @@
 // Texts of two records and two parts: every cell is 0, and every scalar U+0041, but for at most three cells.
 use crate::verdicts;
-use crate::verdicts::write;
 use classes::category;
 use classes::cluster_break;
 use classes::myanmar_class;
 use classes::scalar;
 use classes::use_class;
 use classes::word_break;
+use console::write;
 use records::Parser;
 use records::Verdict;
 use records::check_in;
@@ -144,11 +144,11 @@ fn check(parser: Parser, cells: Cells) -> Verdict {
 
 // "COLUMN.INDEX=VALUE" and the verdicts for the four parsers.
 fn single(column: u8, index: u8, value: u32) {
-    verdicts::decimal(column as u64);
+    console::decimal(column as u64);
     write(b".");
-    verdicts::decimal(index as u64);
+    console::decimal(index as u64);
     write(b"=");
-    verdicts::hex(value);
+    console::hex(value);
     for k in 0..4 {
         verdicts::verdict(check(verdicts::parser(k), one(at(column, index, value))));
     }
@@ -202,9 +202,9 @@ pub(crate) fn single_cells() {
 
 // "FIRST+COUNT" of the second record, against two parts.
 fn run_of_parts(first: u32, count: u32) {
-    verdicts::decimal(first as u64);
+    console::decimal(first as u64);
     write(b"+");
-    verdicts::decimal(count as u64);
+    console::decimal(count as u64);
     verdicts::verdict(check(Parser::Simple, two(at(12, 1, first), at(13, 1, count))));
     write(b"\n");
 }
@@ -220,12 +220,12 @@ pub(crate) fn runs_of_parts() {
     run_of_parts(0, 255);
 }
 
-// One sign for each USE class: the scalar with that class, in a record (columns 0 and 2) or in a part (14 and 16).
+// One digit or dot for each USE class: the scalar with that class, in a record (columns 0 and 2) or in a part (14 and 16).
 fn classes_of(parser: Parser, scalar_column: u8, use_column: u8, x: u32) {
-    verdicts::hex(x);
+    console::hex(x);
     write(b" ");
     for class in 0..use_class::LEN {
-        verdicts::sign(check(
+        verdicts::digit(check(
             parser,
             two(at(scalar_column, 1, x), at(use_column, 1, class as u32)),
         ));
@@ -243,7 +243,7 @@ pub(crate) fn joiners() {
     }
 }
 
-// One sign for each of U+17BD to U+17C6 as the first record, with the mark, the count and the first part's scalar given.
+// One digit or dot for each of U+17BD to U+17C6 as the first record, with the mark, the count and the first part's scalar given.
 fn signs_of(parser: Parser, decompose: u32, count: u32, part: u32) {
     for x in 0x17BD..0x17C7u32 {
         let cells = Cells {
@@ -252,9 +252,9 @@ fn signs_of(parser: Parser, decompose: u32, count: u32, part: u32) {
             c: at(14, 0, part),
         };
         if decompose == 0 {
-            verdicts::sign(check(parser, cells));
+            verdicts::digit(check(parser, cells));
         } else {
-            verdicts::sign(check(
+            verdicts::digit(check(
                 parser,
                 Cells {
                     a: at(0, 0, x),

@@ -1,56 +1,25 @@
 // What is printed of a verdict, and the small pieces of a line.
-use libc::STDOUT_FILENO;
+use console::decimal;
+use console::write;
 use records::Parser;
-use records::Side;
 use records::Verdict;
-
-pub(crate) fn write(text: &[u8]) {
-    io::write_all(STDOUT_FILENO, text);
-}
-
-pub(crate) fn decimal(n: u64) {
-    io::print_decimal(STDOUT_FILENO, n);
-}
-
-pub(crate) fn hex(n: u32) {
-    io::print_hex(STDOUT_FILENO, n as u64, 4);
-}
-
-fn side(s: Side) {
-    match s {
-        Side::Record => write(b" r"),
-        Side::Part => write(b" p"),
-        Side::Neither => write(b" -"),
-    }
-}
 
 // " ok", or " R NUMBER INDEX SIDE".
 pub(crate) fn verdict(v: Verdict) {
     match v {
         Verdict::Accepted => write(b" ok"),
-        Verdict::Refused {
-            number,
-            side: s,
-            index,
-        } => {
-            write(b" R ");
-            decimal(number as u64);
+        Verdict::Refused(refusal) => {
             write(b" ");
-            decimal(index as u64);
-            side(s);
+            console::refusal(refusal);
         }
     }
 }
 
-// One sign: the number of the refusal, or a dot.
-pub(crate) fn sign(v: Verdict) {
+// One digit: the number of the refusal, or a dot.
+pub(crate) fn digit(v: Verdict) {
     match v {
         Verdict::Accepted => write(b"."),
-        Verdict::Refused {
-            number,
-            side: _,
-            index: _,
-        } => decimal(number as u64),
+        Verdict::Refused(refusal) => decimal(refusal.number as u64),
     }
 }
 

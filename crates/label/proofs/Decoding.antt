@@ -9,7 +9,7 @@ use lib.Dec.{eqb, ltb}
 use lib.ListN.{length, getD, take, drop, length-drop, List·getD-eq-default}
 use lib.Seq.{take-all}
 use borrow.Author.Tests.{ltb-true, ltb-false, eqb-true}
-use Rattle.parse.proofs.Loop.{if-intro, by-test}
+use Rattle.basics.proofs.Tests.{if-intro, by-test}
 use Rattle.label.specs.declared.utf8.Decoded.{Decoded}
 use Rattle.label.specs.declared.utf8.Decoded.the-variants.{Scalar, Bad}
 use Rattle.label.specs.Utf8.{tail, six, two, three, threeOf, four, fourOf, decodeFrom, decodeOf}

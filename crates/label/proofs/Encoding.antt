@@ -9,7 +9,7 @@ use native.Mathlib.Omega.{arith}
 use lib.Dec.{eqb, ltb}
 use lib.ListN.{length}
 use borrow.Author.Tests.{lt-ltb, le-ltb, eq-eqb, ltb-true, ltb-false}
-use Rattle.parse.proofs.Loop.{by-test}
+use Rattle.basics.proofs.Tests.{by-test}
 use Rattle.label.specs.declared.utf8.Decoded.{Decoded}
 use Rattle.label.specs.declared.utf8.Decoded.the-variants.{Scalar, Bad}
 use Rattle.label.specs.Utf8.{tail, six, two, three, threeOf, four, fourOf, decodeFrom, decodeOf, encodeOf}

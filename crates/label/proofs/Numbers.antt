@@ -8,11 +8,11 @@ use lib.Dec.{eqb, ltb}
 use lib.ListN.{length, getD, take, drop, set, length-drop, length-set, drop-of-length-le, List·getD-eq-default}
 use lib.Seq.{take-all}
 use borrow.Author.Tests.{eq-eqb, ne-eqb}
-use Rattle.parse.proofs.Loop.{if-same}
+use Rattle.basics.proofs.Tests.{if-same}
 use Rattle.cases.specs.declared.numbers.Number.{Number}
 use Rattle.cases.specs.declared.numbers.Number.the-variants.{Value, Nothing}
 use Rattle.cases.specs.Numbers.{numberOf}
-use Rattle.cases.specs.Parts.{before, upTo, after, nextFrom}
+use Rattle.cases.specs.Spans.{before, upTo, after, nextFrom}
 use Rattle.cases.proofs.Splits.{next-after}
 use Rattle.label.specs.declared.texts.Taken.{Taken}
 use Rattle.label.specs.declared.texts.Taken.the-variants.{Scalars, NotNumber}

@@ -9,7 +9,7 @@ use lib.Dec.{ltb}
 use lib.ListN.{length, getD, take, drop, set, length-drop, length-set, drop-of-length-le}
 use lib.Seq.{take-all, take-suc, take-suc-set, set-out, getD-drop, drop-drop}
 use borrow.Author.Tests.{ltb-true, ltb-false, lt-ltb, le-ltb}
-use Rattle.parse.proofs.Loop.{by-test}
+use Rattle.basics.proofs.Tests.{by-test}
 use Rattle.label.specs.declared.texts.Taken.{Taken}
 use Rattle.label.specs.declared.texts.Taken.the-variants.{Scalars, NotUtf8}
 use Rattle.label.specs.declared.utf8.Decoded.{Decoded}

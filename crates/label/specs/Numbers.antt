@@ -7,7 +7,7 @@ use lib.ListN.{length, getD, drop}
 use Rattle.cases.specs.declared.numbers.Number.{Number}
 use Rattle.cases.specs.declared.numbers.Number.the-variants.{Value, Nothing}
 use Rattle.cases.specs.Numbers.{numberOf, isNumber}
-use Rattle.cases.specs.Parts.{before, upTo}
+use Rattle.cases.specs.Spans.{before, upTo}
 use Rattle.label.specs.declared.texts.Taken.{Taken}
 use Rattle.label.specs.declared.texts.Taken.the-variants.{Scalars, NotNumber}
 use Rattle.label.specs.Utf8.{scalarsFrom, readOf}

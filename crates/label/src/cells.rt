@@ -129,12 +129,11 @@ pub(crate) fn collect<'s, 'a>(
             What::Over => {
                 turns = 0;
             }
-            What::Bad {
-                number,
-                side: _,
-                index,
-            } => {
-                return Outcome::Refused { number, index };
+            What::Refused(refusal) => {
+                return Outcome::Refused {
+                    number: refusal.number,
+                    index: refusal.index,
+                };
             }
         }
     }

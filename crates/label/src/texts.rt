@@ -4,8 +4,8 @@ use crate::utf8::decode;
 use cases::Base;
 use cases::Number;
 use cases::next_of;
-use cases::part_at;
 use cases::read_number;
+use cases::span_at;
 use records::cells::cell8;
 ghost use mathlib.Core.Path.{_≡_};
 ghost use mathlib.Core.Bool.{cond};
@@ -82,7 +82,7 @@ fn read_numbers(bytes: &[u8], out: &mut [u32]) -> Taken
     let mut at: usize = 0;
     let mut n: usize = 0;
     while at < bytes.len() {
-        match number(part_at(bytes, at, b' ')) {
+        match number(span_at(bytes, at, b' ')) {
             Number::Value(x) => {
                 n = store(out, n, x);
                 at = next_of(bytes, at, b' ');

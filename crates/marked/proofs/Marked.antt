@@ -1,4 +1,4 @@
--- "The rules' definitions are shown to give these sixteen by one statement over a single table." The checker computes both sides.
+-- "One statement over one table says that the definitions give them all" (SCOPE 9.1). The checker computes both sides.
 -- Assumes nothing.
 use Prim.Native.Nat.{ℕ}
 use mathlib.Core.Path.{_≡_, refl, sym, _∙_, ap}
@@ -12,7 +12,7 @@ use Rattle.records.specs.Refusals as Refusals
 use Rattle.records.specs.declared.Parser.{Parser}
 use Rattle.records.specs.declared.Parser.the-variants.{Simple, Myanmar, Complex, Khmer}
 use Rattle.records.specs.declared.Verdict.the-variants.{Accepted}
-use Rattle.tokens.specs.Tokens as Tokens
+use Rattle.stream.specs.Stream as Tokens
 use Rattle.parse.specs.State as State
 use Rattle.parse.specs.Rule as Rule
 use Rattle.parse.specs.Shared as Shared
@@ -35,7 +35,7 @@ Parted parser mode =
     × (((Calls.nextOf (standing parser mode 0) (pair parser)) .state) .place .at ≡ 1)
 
 computed : (map (map given) (readings ∷ table) ≡ map (map told) (readings ∷ table)) × ((parser : Parser) (mode : Mode) → Parted parser mode)
-unfolding given told textFor stepping answersOf chars Refusals.over Refusals.badScalar Refusals.badRun Refusals.barred Refusals.isSplit Refusals.badSign Refusals.judgePart Refusals.judgeRecord Refusals.judgeSign Refusals.judgeParts Refusals.judgeRecords Refusals.judgeSigns Refusals.judgeLengths Refusals.verdict Refusals.judgeWord Refusals.wordVerdict Tokens.partTokens Tokens.itself Tokens.split Tokens.gather Tokens.streamOf Tokens.fetchIn Tokens.pieceCount Tokens.countFrom State.emptyCluster State.atMost State.loop State.stepOf State.pushOf State.noteOf Rule.thriceOf Rule.run Rule.either Rule.oneOf Shared.emojiMark Shared.emojiExtension Shared.emojiTurn Shared.emojis Shared.newline Shared.otherArm Simple-rules.isExtension Simple-rules.combining Simple-rules.extend Simple-rules.extension Simple-rules.leading Simple-rules.vowel Simple-rules.trailing Simple-rules.other Simple-rules.syllable Simple-rules.control Simple-rules.start Simple-rules.cluster Myanmar-rules.isKinzi Myanmar-rules.acceptWithAs Myanmar-rules.stacked Myanmar-rules.postBaseVowel Myanmar-rules.pwoToneMark Myanmar-rules.medials Myanmar-rules.vowels Myanmar-rules.finals Myanmar-rules.base Myanmar-rules.kinzi Myanmar-rules.syllable Myanmar-rules.isAlone Myanmar-rules.cluster Complex-rules.given Complex-rules.byKind Complex-rules.baseVs Complex-rules.symbolMarks Complex-rules.consonantMarks Complex-rules.isCoeng Complex-rules.halant Complex-rules.opensHalant Complex-rules.halantBase Complex-rules.isVowelModifier Complex-rules.vowelModifier Complex-rules.medials Complex-rules.vowels Complex-rules.finals Complex-rules.syllable Complex-rules.markedSyllable Complex-rules.isSymbolMark Complex-rules.standardTail Complex-rules.standard Complex-rules.halantNumber Complex-rules.number Complex-rules.symbol Complex-rules.letter Complex-rules.cluster Calls.grammar Calls.called Calls.refusal Calls.end Calls.found Calls.answerIn Calls.nextOf Rules.pairRules Rules.letterRules Rules.numberRules Rules.flagRules Rules.exitOf Rules.leaves Run.nextAt Run.stateAt Run.answerAt Run.answers Run.runVerdict
+unfolding given told textFor stepping answersOf chars Refusals.over Refusals.badScalar Refusals.badRun Refusals.barred Refusals.isSplit Refusals.badSign Refusals.judgePart Refusals.judgeRecord Refusals.judgeSign Refusals.judgeParts Refusals.judgeRecords Refusals.judgeSigns Refusals.judgeLengths Refusals.verdict Refusals.judgeWord Refusals.wordVerdict Tokens.partTokens Tokens.itself Tokens.split Tokens.gather Tokens.streamOf Tokens.fetchIn Tokens.pieceCount Tokens.countFrom State.emptyCluster State.atMost State.loop State.stepOf State.pushOf State.noteOf Rule.thriceOf Rule.run Rule.either Rule.oneOf Shared.emojiMark Shared.emojiExtension Shared.emojiTurn Shared.emojis Shared.newline Shared.otherArm Simple-rules.isExtension Simple-rules.combining Simple-rules.extend Simple-rules.extension Simple-rules.leading Simple-rules.vowel Simple-rules.trailing Simple-rules.other Simple-rules.syllable Simple-rules.control Simple-rules.start Simple-rules.cluster Myanmar-rules.isKinzi Myanmar-rules.acceptWithAs Myanmar-rules.stacked Myanmar-rules.postBaseVowel Myanmar-rules.pwoToneMark Myanmar-rules.medials Myanmar-rules.vowels Myanmar-rules.finals Myanmar-rules.base Myanmar-rules.kinzi Myanmar-rules.syllable Myanmar-rules.isAlone Myanmar-rules.cluster Complex-rules.given Complex-rules.byKind Complex-rules.baseVs Complex-rules.symbolMarks Complex-rules.consonantMarks Complex-rules.isCoeng Complex-rules.halant Complex-rules.opensHalant Complex-rules.halantBase Complex-rules.isVowelModifier Complex-rules.vowelModifier Complex-rules.medials Complex-rules.vowels Complex-rules.finals Complex-rules.syllable Complex-rules.markedSyllable Complex-rules.isSymbolMark Complex-rules.standardTail Complex-rules.standard Complex-rules.halantNumber Complex-rules.number Complex-rules.symbol Complex-rules.letter Complex-rules.cluster Calls.grammar Calls.called Calls.refused Calls.end Calls.found Calls.answerIn Calls.nextOf Rules.pairRules Rules.letterRules Rules.numberRules Rules.flagRules Rules.exitOf Rules.leaves Run.nextAt Run.stateAt Run.answerAt Run.answers Run.runVerdict
 computed = (refl, parted)
   where
     parted : (parser : Parser) (mode : Mode) → Parted parser mode
@@ -60,12 +60,12 @@ later (o ∷ os) = os
 pub marked : (length table ≡ 16) × ((map {B = ℕ} length table ≡ replicate 14 1 ++ (2 ∷ 2 ∷ [])) × (map (map given) table ≡ map (map told) table))
 marked = (refl, (refl, ap later (computed .0)))
 
--- and so how document 01 is read where it is open
+-- and so the corners of SCOPE 6
 pub read : (length readings ≡ 7) × (map given readings ≡ map told readings)
 read = (refl, ap first (computed .0))
 
--- "Programs to be shown shut out: … one that takes the whole text in its first call and then nothing (32 at most, P04)": of those that
--- meet the stepping call's contract, for each parser and mode
+-- Ruled out is "one whose first call swallows the text and whose others find nothing" (SCOPE 10): it does not meet the stepping call's
+-- contract, for each parser and mode.
 pub takes-text : (f : Segmenter → Text → Answer) → ((s : Segmenter) (t : Text) → f s t ≡ Calls.nextOf s t) → (parser : Parser) (mode : Mode) → ((t : Text) → Refusals.verdict parser t ≡ Accepted → ((f (standing parser mode 0) t) .state) .place .at ≡ length (Tokens.streamOf mode parser t)) → ⊥
 takes-text f meets parser mode h =
     let (accepted, two, one) = computed .1 parser mode in

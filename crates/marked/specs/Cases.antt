@@ -1,4 +1,4 @@
--- The sixteen marked cases of document 01 as one table: texts, and what the calls answer on each, from the start to the end.
+-- The sixteen marked cases of SCOPE 9.1 as one table: texts, and what the calls answer on each, from the start to the end.
 use Prim.Native.Nat.{ℕ, zero, suc, _+_, _-_}
 use mathlib.Core.Bool.{Bool, true, false}
 use mathlib.Core.List.{List, [], _∷_, _++_, map}
@@ -17,7 +17,7 @@ use Rattle.classes.specs.declared.Shape.the-variants.{Base, Mark, Control, Kinz
 use Rattle.records.specs.Text.{Text, textOf}
 use Rattle.records.specs.declared.Parser.{Parser}
 use Rattle.records.specs.declared.Parser.the-variants.{Simple, Myanmar, Complex, Khmer}
-use Rattle.tokens.specs.Tokens.{streamOf}
+use Rattle.stream.specs.Stream.{streamOf}
 use Rattle.parse.specs.declared.Emoji.the-variants.{None as NoEmoji, Color}
 use Rattle.parse.specs.declared.Info.{Info}
 use Rattle.parse.specs.declared.Pushed.{Pushed}
@@ -28,56 +28,56 @@ use Rattle.segment.specs.Calls.{nextOf}
 use Rattle.segment.specs.declared.Answer.{Answer}
 use Rattle.segment.specs.declared.Segmenter.{Segmenter}
 use Rattle.segment.specs.declared.What.{What}
-use Rattle.segment.specs.declared.What.the-variants.{Found, Over, Bad}
+use Rattle.segment.specs.declared.What.the-variants.{Found, Over, Refused}
 use Rattle.words.specs.Run.{runCells}
 
 -- what a case says of a record: its scalar, its class for the parser of the case, whether it is an emoji, its count of parts
-pub record Sign : Type 0 where
+pub record Character : Type 0 where
   pub scalar : ℕ
   pub class : ℕ
   pub emoji : ℕ
   pub count : ℕ
 
-abbrev pub sign : ℕ → ℕ → Sign
-sign scalar class = record { scalar = scalar; class = class; emoji = 0; count = 0 }
+abbrev pub character : ℕ → ℕ → Character
+character scalar class = record { scalar = scalar; class = class; emoji = 0; count = 0 }
 
-abbrev pub emoji : ℕ → Sign
+abbrev pub emoji : ℕ → Character
 emoji scalar = record { scalar = scalar; class = Break.XX; emoji = 1; count = 0 }
 
-abbrev pub split : ℕ → ℕ → Sign
+abbrev pub split : ℕ → ℕ → Character
 split scalar class = record { scalar = scalar; class = class; emoji = 0; count = 1 }
 
--- a cell for each sign, all the same
-abbrev pub all : List Sign → ℕ → List ℕ
-all signs n = map (λ _. n) signs
+-- a cell for each character, all the same
+abbrev pub all : List Character → ℕ → List ℕ
+all characters n = map (λ _. n) characters
 
 -- the three columns of classes: the parser's own, the others at the class that no rule names
-abbrev pub breaksFor : Parser → List Sign → List ℕ
-breaksFor Simple signs = map (λ (s : Sign). s .class) signs
-breaksFor Myanmar signs = all signs Break.XX
-breaksFor Complex signs = all signs Break.XX
-breaksFor Khmer signs = all signs Break.XX
+abbrev pub breaksFor : Parser → List Character → List ℕ
+breaksFor Simple characters = map (λ (s : Character). s .class) characters
+breaksFor Myanmar characters = all characters Break.XX
+breaksFor Complex characters = all characters Break.XX
+breaksFor Khmer characters = all characters Break.XX
 
-abbrev pub usesFor : Parser → List Sign → List ℕ
-usesFor Simple signs = all signs Use.REST
-usesFor Myanmar signs = all signs Use.REST
-usesFor Complex signs = map (λ (s : Sign). s .class) signs
-usesFor Khmer signs = map (λ (s : Sign). s .class) signs
+abbrev pub usesFor : Parser → List Character → List ℕ
+usesFor Simple characters = all characters Use.REST
+usesFor Myanmar characters = all characters Use.REST
+usesFor Complex characters = map (λ (s : Character). s .class) characters
+usesFor Khmer characters = map (λ (s : Character). s .class) characters
 
-abbrev pub myanmarsFor : Parser → List Sign → List ℕ
-myanmarsFor Simple signs = all signs Myanmar-class.REST
-myanmarsFor Myanmar signs = map (λ (s : Sign). s .class) signs
-myanmarsFor Complex signs = all signs Myanmar-class.REST
-myanmarsFor Khmer signs = all signs Myanmar-class.REST
+abbrev pub myanmarsFor : Parser → List Character → List ℕ
+myanmarsFor Simple characters = all characters Myanmar-class.REST
+myanmarsFor Myanmar characters = map (λ (s : Character). s .class) characters
+myanmarsFor Complex characters = all characters Myanmar-class.REST
+myanmarsFor Khmer characters = all characters Myanmar-class.REST
 
 -- the lent text of records and parts
-unfoldable pub textFor : Parser → List Sign → List Sign → Text
-textFor parser signs parts =
-    textOf (map (λ (s : Sign). s .scalar) signs) (breaksFor parser signs) (usesFor parser signs) (myanmarsFor parser signs)
-    (all signs Category.Other) (all signs Word.Other)
-    (map (λ (s : Sign). s .emoji) signs) (all signs 0) (all signs 0) (all signs 0) (all signs 0) (all signs 0)
-    (all signs 0) (map (λ (s : Sign). s .count) signs)
-    (map (λ (s : Sign). s .scalar) parts) (all parts Break.XX) (map (λ (s : Sign). s .class) parts) (all parts Category.Other)
+unfoldable pub textFor : Parser → List Character → List Character → Text
+textFor parser characters parts =
+    textOf (map (λ (s : Character). s .scalar) characters) (breaksFor parser characters) (usesFor parser characters) (myanmarsFor parser characters)
+    (all characters Category.Other) (all characters Word.Other)
+    (map (λ (s : Character). s .emoji) characters) (all characters 0) (all characters 0) (all characters 0) (all characters 0) (all characters 0)
+    (all characters 0) (map (λ (s : Character). s .count) characters)
+    (map (λ (s : Character). s .scalar) parts) (all parts Break.XX) (map (λ (s : Character). s .class) parts) (all parts Category.Other)
 
 abbrev pub standing : Parser → Mode → ℕ → Segmenter
 standing parser mode at = record { parser = parser; mode = mode; place = record { at = at } }
@@ -86,7 +86,7 @@ standing parser mode at = record { parser = parser; mode = mode; place = record 
 abbrev pub further : What → List Answer → List Answer
 further Found later = later
 further Over later = []
-further (Bad number side index) later = []
+further (Refused r) later = []
 
 -- the answers of the stepping calls, each from the state that the one before handed back
 unfoldable pub stepping : ℕ → Segmenter → Text → List Answer
@@ -138,78 +138,78 @@ normal i = record { emoji = i .emoji; space = i .space; broken = i .broken; norm
 
 -- a text of a parser with its calls in crate mode and in whole mode; or two columns of words with the answers
 pub data Case : Type 0 where
-  clusters : Parser → List Sign → List Sign → List Call → List Call → Case
+  clusters : Parser → List Character → List Character → List Call → List Call → Case
   words : List ℕ → List ℕ → List ℕ → Case
 
 -- the same in both modes, and no parts
-abbrev pub both : Parser → List Sign → List Call → Case
-both parser signs calls = clusters parser signs [] calls calls
+abbrev pub both : Parser → List Character → List Call → Case
+both parser characters calls = clusters parser characters [] calls calls
 
 -- a word text without pictographs
 abbrev pub plain : List ℕ → List ℕ → Case
 plain classes told = words classes (map (λ _. 0) classes) told
 
-abbrev pub label : List Sign
-label = sign NGA Myanmar-class.C ∷ sign ASAT Myanmar-class.As ∷ sign VIRAMA Myanmar-class.H ∷ []
+abbrev pub label : List Character
+label = character NGA Myanmar-class.C ∷ character ASAT Myanmar-class.As ∷ character VIRAMA Myanmar-class.H ∷ []
 
 abbrev pub kinzi : List Pushed
 kinzi = char NGA Kinzi 0 ∷ char ASAT Kinzi 1 ∷ char VIRAMA Kinzi 2 ∷ []
 
-abbrev pub accented : ℕ → List Sign
-accented n = sign 0x61 Break.XX ∷ replicate n (sign 0x301 Break.EX)
+abbrev pub accented : ℕ → List Character
+accented n = character 0x61 Break.XX ∷ replicate n (character 0x301 Break.EX)
 
 abbrev pub accentedChars : ℕ → List Pushed
 accentedChars n = char 0x61 Base 0 ∷ chars n 0x301 Mark 1
 
-abbrev pub flag : ℕ → Sign
-flag scalar = sign scalar Break.RI
+abbrev pub flag : ℕ → Character
+flag scalar = character scalar Break.RI
 
--- P01 "S, empty: no call but the end's answer."
+-- P01 simple, empty: the end, at once
 abbrev pub P01 : List Case
 P01 = both Simple [] [] ∷ []
 
--- P02 "S, CR LF: one cluster, newline, Control Control."
+-- P02 simple, CR LF: Control Control; newline
 abbrev pub P02 : List Case
 P02 =
-    both Simple (sign Scalar.CR Break.CR ∷ sign Scalar.LF Break.LF ∷ [])
+    both Simple (character Scalar.CR Break.CR ∷ character Scalar.LF Break.LF ∷ [])
     (call (char Scalar.CR Control 0 ∷ char Scalar.LF Control 1 ∷ []) (spaced Newline) 2 ∷ [])
     ∷ []
 
--- P03 "S, LF then U+0301 as EX: one cluster, newline, Control Mark, normalise."
+-- P03 simple, LF U+0301: Control Mark; newline, normalising forced
 abbrev pub P03 : List Case
 P03 =
-    both Simple (sign Scalar.LF Break.LF ∷ sign 0x301 Break.EX ∷ [])
+    both Simple (character Scalar.LF Break.LF ∷ character 0x301 Break.EX ∷ [])
     (call (char Scalar.LF Control 0 ∷ char 0x301 Mark 1 ∷ []) (normal (spaced Newline)) 2 ∷ [])
     ∷ []
 
--- P04 "S, RI RI: two clusters."
+-- P04 simple, RI RI: Base, then Base
 abbrev pub P04 : List Case
 P04 =
     both Simple (flag 0x1F1E6 ∷ flag 0x1F1E7 ∷ [])
     (call (char 0x1F1E6 Base 0 ∷ []) noInfo 1 ∷ call (char 0x1F1E7 Base 1 ∷ []) noInfo 2 ∷ [])
     ∷ []
 
--- P05 "S, L V T: two characters, then one."
+-- P05 simple, L V T: Base Base, then Base
 abbrev pub P05 : List Case
 P05 =
-    both Simple (sign 0x1100 Break.L ∷ sign 0x1161 Break.«V» ∷ sign 0x11A8 Break.T ∷ [])
+    both Simple (character 0x1100 Break.L ∷ character 0x1161 Break.«V» ∷ character 0x11A8 Break.T ∷ [])
     (call (char 0x1100 Base 0 ∷ char 0x1161 Base 1 ∷ []) noInfo 2 ∷ call (char 0x11A8 Base 2 ∷ []) noInfo 3 ∷ [])
     ∷ []
 
--- P06 "S, emoji FE0F(EX) ZWJ emoji: one cluster, Base Zwj Base, one noted, Color."
+-- P06 simple, emoji U+FE0F (EX) ZWJ emoji: Base with one noted, Zwj, Base; Color
 abbrev pub P06 : List Case
 P06 =
-    both Simple (emoji 0x1F468 ∷ sign 0xFE0F Break.EX ∷ sign 0x200D Break.ZWJ ∷ emoji 0x1F33E ∷ [])
+    both Simple (emoji 0x1F468 ∷ character 0xFE0F Break.EX ∷ character 0x200D Break.ZWJ ∷ emoji 0x1F33E ∷ [])
     (call (record { scalar = 0x1F468; index = 0; noted = 1; class = Base } ∷ char 0x200D Zwj 2 ∷ char 0x1F33E Base 3 ∷ [])
     (record { emoji = Color; space = NoSpace; broken = false; normalise = false }) 4
     ∷ [])
     ∷ []
 
--- P07 "S, XX and 30 U+0301: one cluster of 31."
+-- P07 simple, XX 30 × U+0301: one cluster, 31 characters
 abbrev pub P07 : List Case
 P07 = both Simple (accented 30) (call (accentedChars 30) (normal (spaced (From 0x61))) 31 ∷ []) ∷ []
 
--- P08 "S, XX and 31 U+0301: crate 32, then 1 (Mark, broken); whole one of 32."
+-- P08 simple, XX 31 × U+0301: crate 32 characters, then Mark, broken; whole 32 characters
 abbrev pub P08 : List Case
 P08 =
     clusters Simple (accented 31) []
@@ -217,7 +217,7 @@ P08 =
     (call (accentedChars 31) (normal (spaced (From 0x61))) 32 ∷ [])
     ∷ []
 
--- P09 "M, U+1004 C, 103A As, 1039 H: crate Kinzi Kinzi Kinzi Other, broken; whole three Kinzi."
+-- P09 Myanmar, U+1004 (C) U+103A (As) U+1039 (H): crate Kinzi Kinzi Kinzi Other, broken; whole Kinzi Kinzi Kinzi
 abbrev pub P09 : List Case
 P09 =
     clusters Myanmar label []
@@ -225,43 +225,43 @@ P09 =
     (call kinzi noInfo 3 ∷ [])
     ∷ []
 
--- P10 "M, P09 then U+1000 C: Kinzi three times, Base."
+-- P10 Myanmar, P09, then U+1000 (C): Kinzi Kinzi Kinzi Base
 abbrev pub P10 : List Case
-P10 = both Myanmar (label ++ (sign 0x1000 Myanmar-class.C ∷ [])) (call (kinzi ++ (char 0x1000 Base 3 ∷ [])) noInfo 4 ∷ []) ∷ []
+P10 = both Myanmar (label ++ (character 0x1000 Myanmar-class.C ∷ [])) (call (kinzi ++ (char 0x1000 Base 3 ∷ [])) noInfo 4 ∷ []) ∷ []
 
--- P11 "M, P09 then 29 U+034F as rest: crate 32, then 1 (Other, broken); whole one of 32."
+-- P11 Myanmar, P09, then 29 × U+034F (rest): crate 32 characters, then Other, broken; whole 32 characters
 abbrev pub P11 : List Case
 P11 =
-    clusters Myanmar (label ++ replicate 29 (sign CGJ Myanmar-class.REST)) []
+    clusters Myanmar (label ++ replicate 29 (character CGJ Myanmar-class.REST)) []
     (call (kinzi ++ chars 29 CGJ Other 3) noInfo 31 ∷ call (char CGJ Other 31 ∷ []) broken 32 ∷ [])
     (call (kinzi ++ chars 29 CGJ Other 3) noInfo 32 ∷ [])
     ∷ []
 
--- P12 "C, Khmer, U+1780 B, U+17BE VAbv, part U+17C1 VPre: Base VPre Other."
+-- P12 Khmer, U+1780 (B) U+17BE (VAbv), its part U+17C1 (VPre): Base VPre Other
 abbrev pub P12 : List Case
 P12 =
     let told = call (char 0x1780 Base 0 ∷ char KHMER-E VPre 1 ∷ char KHMER-OE Other 1 ∷ []) noInfo 3 ∷ [] in
-    clusters Khmer (sign 0x1780 Use.B ∷ split KHMER-OE Use.VAbv ∷ []) (sign KHMER-E Use.VPre ∷ []) told told ∷ []
+    clusters Khmer (character 0x1780 Use.B ∷ split KHMER-OE Use.VAbv ∷ []) (character KHMER-E Use.VPre ∷ []) told told ∷ []
 
--- P13 "C, CR U+034F LF, all O: one cluster, newline, Control Other Control."
+-- P13 complex, CR U+034F LF, all of class O: Control Other Control; newline
 abbrev pub P13 : List Case
 P13 =
-    both Complex (sign Scalar.CR Use.O ∷ sign CGJ Use.O ∷ sign Scalar.LF Use.O ∷ [])
+    both Complex (character Scalar.CR Use.O ∷ character CGJ Use.O ∷ character Scalar.LF Use.O ∷ [])
     (call (char Scalar.CR Control 0 ∷ char CGJ Other 1 ∷ char Scalar.LF Control 2 ∷ []) (spaced Newline) 3 ∷ [])
     ∷ []
 
--- P14 "W, ALetter MidNumLet ALetter: 1 0 0."
+-- P14 words, ALetter MidNumLet ALetter: 1 0 0
 abbrev pub P14 : List Case
 P14 = plain (Word.ALetter ∷ Word.MidNumLet ∷ Word.ALetter ∷ []) (1 ∷ 0 ∷ 0 ∷ []) ∷ []
 
--- P15 "W, Other ZWJ Other, pictographs: 1 0 1.", whatever the mark of the ZWJ
+-- P15 words, Other ZWJ Other, both Others pictographs: 1 0 1, whatever the mark of the ZWJ
 abbrev pub P15 : List Case
 P15 =
     words (Word.Other ∷ Word.ZWJ ∷ Word.Other ∷ []) (1 ∷ 0 ∷ 1 ∷ []) (1 ∷ 0 ∷ 1 ∷ [])
     ∷ words (Word.Other ∷ Word.ZWJ ∷ Word.Other ∷ []) (1 ∷ 1 ∷ 1 ∷ []) (1 ∷ 0 ∷ 1 ∷ [])
     ∷ []
 
--- P16 "W, LF RI RI RI: 1 1 0 0. Without the LF: 1 0 1."
+-- P16 words, LF RI RI RI: 1 1 0 0; RI RI RI: 1 0 1
 abbrev pub P16 : List Case
 P16 =
     plain (Word.LF ∷ Word.RI ∷ Word.RI ∷ Word.RI ∷ []) (1 ∷ 1 ∷ 0 ∷ 0 ∷ [])
@@ -282,20 +282,20 @@ walked parser mode t = stepping (length (streamOf mode parser t) + 1) (standing 
 
 -- what the definitions of the public functions give; the cells lent to a word run hold neither 0 nor 1 before
 unfoldable pub given : Case → Outcome
-given (clusters parser signs parts crate whole) =
-    let t = textFor parser signs parts in
+given (clusters parser characters parts crate whole) =
+    let t = textFor parser characters parts in
     record { crate = walked parser Crate t; whole = walked parser Whole t; cells = [] }
 given (words classes pictographs answers) = record { crate = []; whole = []; cells = runCells classes pictographs (map (λ _. 7) classes) }
 
--- what document 01 tells
+-- what SCOPE 9.1 tells
 unfoldable pub told : Case → Outcome
-told (clusters parser signs parts crate whole) =
+told (clusters parser characters parts crate whole) =
     record { crate = answersOf parser Crate 0 crate; whole = answersOf parser Whole 0 whole; cells = [] }
 told (words classes pictographs answers) = record { crate = []; whole = []; cells = answers }
 
 -- two records that no parser puts into one cluster: those of P04, two consonants, two bases
 abbrev pub pair : Parser → Text
 pair Simple = textFor Simple (flag 0x1F1E6 ∷ flag 0x1F1E7 ∷ []) []
-pair Myanmar = textFor Myanmar (sign 0x1000 Myanmar-class.C ∷ sign 0x1000 Myanmar-class.C ∷ []) []
-pair Complex = textFor Complex (sign 0x1780 Use.B ∷ sign 0x1780 Use.B ∷ []) []
-pair Khmer = textFor Khmer (sign 0x1780 Use.B ∷ sign 0x1780 Use.B ∷ []) []
+pair Myanmar = textFor Myanmar (character 0x1000 Myanmar-class.C ∷ character 0x1000 Myanmar-class.C ∷ []) []
+pair Complex = textFor Complex (character 0x1780 Use.B ∷ character 0x1780 Use.B ∷ []) []
+pair Khmer = textFor Khmer (character 0x1780 Use.B ∷ character 0x1780 Use.B ∷ []) []

@@ -1,4 +1,4 @@
--- How document 01 is read where it is open (docs/DECISIONS.md), each on its smallest text.
+-- Corners of the parsers that could be read otherwise (SCOPE 6), each on its smallest text.
 use mathlib.Core.List.{List, [], _∷_, _++_}
 use lib.ListN.{replicate}
 use Rattle.classes.specs.ClusterBreak as Break
@@ -9,51 +9,51 @@ use Rattle.classes.specs.declared.Shape.the-variants.{Base, Mark, Control, Reph
 use Rattle.records.specs.declared.Parser.the-variants.{Simple, Myanmar, Complex}
 use Rattle.parse.specs.declared.Space.the-variants.{Newline}
 use Rattle.parse.specs.State.{noInfo}
-use Rattle.marked.specs.Cases.{Case, clusters, both, sign, call, char, chars, spaced, broken, normal, label, kinzi}
+use Rattle.marked.specs.Cases.{Case, clusters, both, character, call, char, chars, spaced, broken, normal, label, kinzi}
 
--- "nor does the start of a text" is the start of a call: U+034F that begins a call goes by its class
+-- a U+034F with which a call begins goes by its class: no step leads onto it (6.2)
 abbrev pub joinerBegins : Case
 joinerBegins =
     let full = char 0x1000 Base 0 ∷ chars 31 Scalar.CGJ Other 1 in
-    clusters Myanmar (sign 0x1000 Myanmar-class.C ∷ replicate 32 (sign Scalar.CGJ Myanmar-class.REST)) []
+    clusters Myanmar (character 0x1000 Myanmar-class.C ∷ replicate 32 (character Scalar.CGJ Myanmar-class.REST)) []
     (call full noInfo 31 ∷ call (chars 2 Scalar.CGJ Other 31) broken 33 ∷ [])
     (call full noInfo 32 ∷ call (chars 1 Scalar.CGJ Other 32) broken 33 ∷ [])
 
--- repeat (b) pushes the last token by its own class: a virama of class C
+-- repeat (b) takes the last token by its own class: a virama of class C (6.8)
 abbrev pub viramaOfC : Case
 viramaOfC =
-    clusters Myanmar (sign Scalar.NGA Myanmar-class.C ∷ sign Scalar.ASAT Myanmar-class.As ∷ sign Scalar.VIRAMA Myanmar-class.C ∷ []) []
+    clusters Myanmar (character Scalar.NGA Myanmar-class.C ∷ character Scalar.ASAT Myanmar-class.As ∷ character Scalar.VIRAMA Myanmar-class.C ∷ []) []
     (call (kinzi ++ (char Scalar.VIRAMA Base 2 ∷ [])) noInfo 3 ∷ [])
     (call kinzi noInfo 3 ∷ [])
 
 -- and a U+034F of class C
 abbrev pub joinerOfC : Case
 joinerOfC =
-    clusters Myanmar (label ++ (sign Scalar.CGJ Myanmar-class.C ∷ [])) []
+    clusters Myanmar (label ++ (character Scalar.CGJ Myanmar-class.C ∷ [])) []
     (call (kinzi ++ (char Scalar.CGJ Other 3 ∷ char Scalar.CGJ Base 3 ∷ [])) noInfo 4 ∷ [])
     (call (kinzi ++ (char Scalar.CGJ Other 3 ∷ [])) noInfo 4 ∷ [])
 
--- U+034F parts CR from LF in simple
+-- U+034F parts CR from LF in simple (6.4)
 abbrev pub joinerParts : Case
 joinerParts =
-    both Simple (sign Scalar.CR Break.CR ∷ sign Scalar.CGJ Break.EX ∷ sign Scalar.LF Break.LF ∷ [])
+    both Simple (character Scalar.CR Break.CR ∷ character Scalar.CGJ Break.EX ∷ character Scalar.LF Break.LF ∷ [])
     (call (char Scalar.CR Control 0 ∷ char Scalar.CGJ Mark 1 ∷ []) (normal (spaced Newline)) 2
     ∷ call (char Scalar.LF Control 2 ∷ []) (spaced Newline) 3
     ∷ [])
 
--- R takes any next token that is no base, LF too; alone at the end it is not broken
+-- R takes any next token that is no base, LF too; alone at the end it is not broken (6.6)
 abbrev pub rephTakesNewline : Case
 rephTakesNewline =
-    both Complex (sign 0x1A5A Use.R ∷ sign Scalar.LF Use.O ∷ [])
+    both Complex (character 0x1A5A Use.R ∷ character Scalar.LF Use.O ∷ [])
     (call (char 0x1A5A Reph 0 ∷ char Scalar.LF Other 1 ∷ []) broken 2 ∷ [])
 
 abbrev pub rephAlone : Case
-rephAlone = both Complex (sign 0x1A5A Use.R ∷ []) (call (char 0x1A5A Reph 0 ∷ []) noInfo 1 ∷ [])
+rephAlone = both Complex (character 0x1A5A Use.R ∷ []) (call (char 0x1A5A Reph 0 ∷ []) noInfo 1 ∷ [])
 
--- an extension after a prepended character is broken
+-- an extension after a prepended character is broken (6.3)
 abbrev pub prependedMark : Case
 prependedMark =
-    both Simple (sign 0x600 Break.PP ∷ sign 0x301 Break.EX ∷ [])
+    both Simple (character 0x600 Break.PP ∷ character 0x301 Break.EX ∷ [])
     (call (char 0x600 Base 0 ∷ char 0x301 Mark 1 ∷ []) (normal broken) 2 ∷ [])
 
 abbrev pub readings : List Case

@@ -3,7 +3,6 @@ use crate::texts::Text;
 use crate::texts::next;
 use classes::Mode;
 use parse::Cluster;
-use parse::Emoji;
 use parse::Info;
 use parse::Pushed;
 use parse::Space;
@@ -33,22 +32,8 @@ fn both(a: bool, b: bool) -> bool {
     if a { b } else { false }
 }
 
-fn emoji_code(e: Emoji) -> u8 {
-    match e {
-        Emoji::None => 0,
-        Emoji::Default => 1,
-        Emoji::Text => 2,
-        Emoji::Color => 3,
-    }
-}
-
-// No scalar is above 10FFFF.
-fn space_code(s: Space) -> u32 {
-    match s {
-        Space::None => 0x110000,
-        Space::Newline => 0x110001,
-        Space::From(x) => x,
-    }
+fn same_space(x: Space, y: Space) -> bool {
+    both(x.code() == y.code(), x.scalar() == y.scalar())
 }
 
 fn same_info(x: Info, y: Info) -> bool {
@@ -56,8 +41,8 @@ fn same_info(x: Info, y: Info) -> bool {
     let ye = y.emoji;
     let xs = x.space;
     let ys = y.space;
-    if emoji_code(xe) == emoji_code(ye) {
-        if space_code(xs) == space_code(ys) {
+    if xe.code() == ye.code() {
+        if same_space(xs, ys) {
             return both(x.broken == y.broken, x.normalise == y.normalise);
         }
     }
@@ -108,11 +93,7 @@ fn is_found(w: What) -> bool {
     match w {
         What::Found => true,
         What::Over => false,
-        What::Bad {
-            number: _,
-            side: _,
-            index: _,
-        } => false,
+        What::Refused(_) => false,
     }
 }
 
@@ -120,11 +101,7 @@ fn is_over(w: What) -> bool {
     match w {
         What::Found => false,
         What::Over => true,
-        What::Bad {
-            number: _,
-            side: _,
-            index: _,
-        } => false,
+        What::Refused(_) => false,
     }
 }
 

@@ -1,9 +1,9 @@
-// P01 to P13: the texts of the table and what it tells of them, in the words of document 01.
+// P01 to P13: the texts of SCOPE 9.1 and what it tells of them.
 use crate::calls;
 use crate::calls::Call;
 use crate::calls::one;
 use crate::calls::two;
-use crate::texts::Sign;
+use crate::texts::Character;
 use crate::texts::Text;
 use crate::texts::of_class;
 use classes::Mode;
@@ -19,7 +19,7 @@ use parse::Pushed;
 use parse::Space;
 use records::Parser;
 
-const NO_SIGN: Sign = Sign {
+const NO_CHARACTER: Character = Character {
     scalar: 0,
     class: 0,
     emoji: 0,
@@ -29,7 +29,14 @@ const NO_SIGN: Sign = Sign {
 // U+0301, a mark that may compose
 const ACUTE: u32 = 0x301;
 
-fn text(parser: Parser, len: usize, a: Sign, b: Sign, c: Sign, d: Sign) -> Text {
+fn text(
+    parser: Parser,
+    len: usize,
+    a: Character,
+    b: Character,
+    c: Character,
+    d: Character,
+) -> Text {
     Text {
         parser,
         len,
@@ -37,12 +44,12 @@ fn text(parser: Parser, len: usize, a: Sign, b: Sign, c: Sign, d: Sign) -> Text 
         b,
         c,
         d,
-        part: NO_SIGN,
+        part: NO_CHARACTER,
     }
 }
 
-fn simple2(a: Sign, b: Sign) -> Text {
-    text(Parser::Simple, 2, a, b, NO_SIGN, NO_SIGN)
+fn simple2(a: Character, b: Character) -> Text {
+    text(Parser::Simple, 2, a, b, NO_CHARACTER, NO_CHARACTER)
 }
 
 fn character(scalar: u32, class: Shape, index: u16) -> Pushed {
@@ -96,13 +103,20 @@ fn broken() -> Info {
     info(Space::None, true, false)
 }
 
-// P01 "S, empty: no call but the end's answer."
+// P01 simple, empty: the end, at once
 pub(crate) fn p01(mode: Mode) -> bool {
-    let t = text(Parser::Simple, 0, NO_SIGN, NO_SIGN, NO_SIGN, NO_SIGN);
+    let t = text(
+        Parser::Simple,
+        0,
+        NO_CHARACTER,
+        NO_CHARACTER,
+        NO_CHARACTER,
+        NO_CHARACTER,
+    );
     calls::over(calls::begin(t, mode), t)
 }
 
-// P02 "S, CR LF: one cluster, newline, Control Control."
+// P02 simple, CR LF: Control Control; newline
 pub(crate) fn p02(mode: Mode) -> bool {
     let t = simple2(
         of_class(scalar::CR, cluster_break::CR),
@@ -113,7 +127,7 @@ pub(crate) fn p02(mode: Mode) -> bool {
     one(t, mode, call2(a, b, info(Space::Newline, false, false), 2))
 }
 
-// P03 "S, LF then U+0301 as EX: one cluster, newline, Control Mark, normalise."
+// P03 simple, LF U+0301: Control Mark; newline, normalising forced
 pub(crate) fn p03(mode: Mode) -> bool {
     let t = simple2(
         of_class(scalar::LF, cluster_break::LF),
@@ -124,7 +138,7 @@ pub(crate) fn p03(mode: Mode) -> bool {
     one(t, mode, call2(a, b, info(Space::Newline, false, true), 2))
 }
 
-// P04 "S, RI RI: two clusters."
+// P04 simple, RI RI: Base, then Base
 pub(crate) fn p04(mode: Mode) -> bool {
     let t = simple2(
         of_class(0x1F1E6, cluster_break::RI),
@@ -135,7 +149,7 @@ pub(crate) fn p04(mode: Mode) -> bool {
     two(t, mode, call1(a, no_info(), 1), call1(b, no_info(), 2))
 }
 
-// P05 "S, L V T: two characters, then one."
+// P05 simple, L V T: Base Base, then Base
 pub(crate) fn p05(mode: Mode) -> bool {
     let l = of_class(0x1100, cluster_break::L);
     let v = of_class(0x1161, cluster_break::V);
@@ -145,7 +159,7 @@ pub(crate) fn p05(mode: Mode) -> bool {
         l,
         v,
         of_class(0x11A8, cluster_break::T),
-        NO_SIGN,
+        NO_CHARACTER,
     );
     let a = character(0x1100, Shape::Base, 0);
     let b = character(0x1161, Shape::Base, 1);
@@ -153,8 +167,8 @@ pub(crate) fn p05(mode: Mode) -> bool {
     two(t, mode, call2(a, b, no_info(), 2), call1(c, no_info(), 3))
 }
 
-fn emoji(scalar: u32) -> Sign {
-    Sign {
+fn emoji(scalar: u32) -> Character {
+    Character {
         scalar,
         class: cluster_break::XX,
         emoji: 1,
@@ -162,7 +176,7 @@ fn emoji(scalar: u32) -> Sign {
     }
 }
 
-// P06 "S, emoji FE0F(EX) ZWJ emoji: one cluster, Base Zwj Base, one noted, Color."
+// P06 simple, emoji U+FE0F (EX) ZWJ emoji: Base with one noted, Zwj, Base; Color
 pub(crate) fn p06(mode: Mode) -> bool {
     let selector = of_class(scalar::VS16, cluster_break::EX);
     let joiner = of_class(scalar::ZWJ, cluster_break::ZWJ);
@@ -216,12 +230,12 @@ fn accented_call(len: usize, next: usize) -> Call {
     )
 }
 
-// P07 "S, XX and 30 U+0301: one cluster of 31."
+// P07 simple, XX 30 × U+0301: one cluster, 31 characters
 pub(crate) fn p07(mode: Mode) -> bool {
     one(accented(31), mode, accented_call(31, 31))
 }
 
-// P08 "S, XX and 31 U+0301: crate 32, then 1 (Mark, broken); whole one of 32."
+// P08 simple, XX 31 × U+0301: crate 32 characters, then Mark, broken; whole 32 characters
 pub(crate) fn p08(mode: Mode) -> bool {
     let repeated = character(ACUTE, Shape::Mark, 31);
     match mode {
@@ -236,7 +250,7 @@ pub(crate) fn p08(mode: Mode) -> bool {
 }
 
 // The story's label, U+1004 U+103A U+1039, and more records
-fn label(len: usize, later: Sign) -> Text {
+fn label(len: usize, later: Character) -> Text {
     text(
         Parser::Myanmar,
         len,
@@ -259,16 +273,24 @@ fn kinzi(len: usize, later: Pushed, info: Info, next: usize) -> Call {
     )
 }
 
-// P09 "M, U+1004 C, 103A As, 1039 H: crate Kinzi Kinzi Kinzi Other, broken; whole three Kinzi."
+// P09 Myanmar, U+1004 (C) U+103A (As) U+1039 (H): crate Kinzi Kinzi Kinzi Other, broken; whole Kinzi Kinzi Kinzi
 pub(crate) fn p09(mode: Mode) -> bool {
     let repeated = character(scalar::VIRAMA, Shape::Other, 2);
     match mode {
-        Mode::Crate => one(label(3, NO_SIGN), mode, kinzi(4, repeated, broken(), 3)),
-        Mode::Whole => one(label(3, NO_SIGN), mode, kinzi(3, repeated, no_info(), 3)),
+        Mode::Crate => one(
+            label(3, NO_CHARACTER),
+            mode,
+            kinzi(4, repeated, broken(), 3),
+        ),
+        Mode::Whole => one(
+            label(3, NO_CHARACTER),
+            mode,
+            kinzi(3, repeated, no_info(), 3),
+        ),
     }
 }
 
-// P10 "M, P09 then U+1000 C: Kinzi three times, Base."
+// P10 Myanmar, P09, then U+1000 (C): Kinzi Kinzi Kinzi Base
 pub(crate) fn p10(mode: Mode) -> bool {
     let base = character(0x1000, Shape::Base, 3);
     one(
@@ -278,7 +300,7 @@ pub(crate) fn p10(mode: Mode) -> bool {
     )
 }
 
-// P11 "M, P09 then 29 U+034F as rest: crate 32, then 1 (Other, broken); whole one of 32."
+// P11 Myanmar, P09, then 29 × U+034F (rest): crate 32 characters, then Other, broken; whole 32 characters
 pub(crate) fn p11(mode: Mode) -> bool {
     let t = label(32, of_class(scalar::CGJ, myanmar_class::REST));
     let joiner = character(scalar::CGJ, Shape::Other, 3);
@@ -295,8 +317,8 @@ pub(crate) fn p11(mode: Mode) -> bool {
 }
 
 // One part, or a record with one part
-fn part(scalar: u32, class: u8) -> Sign {
-    Sign {
+fn part(scalar: u32, class: u8) -> Character {
+    Character {
         scalar,
         class,
         emoji: 0,
@@ -304,15 +326,15 @@ fn part(scalar: u32, class: u8) -> Sign {
     }
 }
 
-// P12 "C, Khmer, U+1780 B, U+17BE VAbv, part U+17C1 VPre: Base VPre Other."
+// P12 Khmer, U+1780 (B) U+17BE (VAbv), its part U+17C1 (VPre): Base VPre Other
 pub(crate) fn p12(mode: Mode) -> bool {
     let t = Text {
         parser: Parser::Khmer,
         len: 2,
         a: of_class(0x1780, use_class::B),
         b: part(scalar::KHMER_OE, use_class::VAbv),
-        c: NO_SIGN,
-        d: NO_SIGN,
+        c: NO_CHARACTER,
+        d: NO_CHARACTER,
         part: part(scalar::KHMER_E, use_class::VPre),
     };
     let a = character(0x1780, Shape::Base, 0);
@@ -321,7 +343,7 @@ pub(crate) fn p12(mode: Mode) -> bool {
     one(t, mode, call3(a, b, c, no_info(), 3))
 }
 
-// P13 "C, CR U+034F LF, all O: one cluster, newline, Control Other Control."
+// P13 complex, CR U+034F LF, all of class O: Control Other Control; newline
 pub(crate) fn p13(mode: Mode) -> bool {
     let joiner = of_class(scalar::CGJ, use_class::O);
     let t = text(
@@ -330,7 +352,7 @@ pub(crate) fn p13(mode: Mode) -> bool {
         of_class(scalar::CR, use_class::O),
         joiner,
         of_class(scalar::LF, use_class::O),
-        NO_SIGN,
+        NO_CHARACTER,
     );
     let a = character(scalar::CR, Shape::Control, 0);
     let b = character(scalar::CGJ, Shape::Other, 1);

@@ -1,4 +1,4 @@
-// The sixteen marked cases of document 01, by the public functions: a line for each, `P01 ok` to `P16 ok`, or `fails`. The same
+// The sixteen marked cases of SCOPE 9.1, by the public functions: a line for each, `P01 ok` to `P16 ok`, or `fails`. The same
 // table stands in specs/Cases.antt for the definitions.
 mod calls;
 mod clusters;
@@ -6,18 +6,15 @@ mod runs;
 mod texts;
 
 use classes::Mode;
-use libc::STDOUT_FILENO;
-
-fn write(text: &[u8]) {
-    io::write_all(STDOUT_FILENO, text);
-}
+use console::decimal;
+use console::write;
 
 fn line(number: u64, good: bool) {
     write(b"P");
     if number < 10 {
         write(b"0");
     }
-    io::print_decimal(STDOUT_FILENO, number);
+    decimal(number);
     if good {
         write(b" ok\n");
     } else {

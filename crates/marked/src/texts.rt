@@ -12,15 +12,15 @@ use segment::Answer;
 use segment::Segmenter;
 
 // What a case says of a record: its scalar, its class for the parser of the case, whether it is an emoji, its count of parts.
-pub(crate) struct Sign {
+pub(crate) struct Character {
     pub scalar: u32,
     pub class: u8,
     pub emoji: u8,
     pub count: u8,
 }
 
-pub(crate) fn of_class(scalar: u32, class: u8) -> Sign {
-    Sign {
+pub(crate) fn of_class(scalar: u32, class: u8) -> Character {
+    Character {
         scalar,
         class,
         emoji: 0,
@@ -33,11 +33,11 @@ pub(crate) fn of_class(scalar: u32, class: u8) -> Sign {
 pub(crate) struct Text {
     pub parser: Parser,
     pub len: usize,
-    pub a: Sign,
-    pub b: Sign,
-    pub c: Sign,
-    pub d: Sign,
-    pub part: Sign,
+    pub a: Character,
+    pub b: Character,
+    pub c: Character,
+    pub d: Character,
+    pub part: Character,
 }
 
 fn column32(a: u32, b: u32, c: u32, d: u32) -> [u32; 32] {

@@ -10,6 +10,8 @@ use lib.Dec.{eqb, ltb}
 use lib.ListN.{length, drop, drop-of-length-le, List·getD-eq-default}
 use lib.Seq.{drop-cons}
 use borrow.Author.Tests.{lt-ltb, le-ltb, ltb-true, ltb-false, eqb-true}
+use Rattle.basics.proofs.Tests.{both-of, if-same, by-test}
+use Rattle.basics.specs.Sets.{member}
 use Rattle.classes.specs.declared.Mode.{Mode}
 use Rattle.classes.specs.declared.Shape.the-variants.{Kinzi, Other}
 use Rattle.classes.specs.Scalar.{CGJ, kinziFirsts, ASAT, VIRAMA}
@@ -18,8 +20,7 @@ use Rattle.parse.specs.declared.Parse.{Parse}
 use Rattle.parse.specs.declared.Flow.{Flow}
 use Rattle.parse.specs.declared.Flow.the-variants.{GoOn, Stop, Full, End}
 use Rattle.parse.specs.State.{tokenAt, begin, isGoing, going, withPlace, putOf, stepOf, pushOf, retriedOf}
-use Rattle.parse.specs.Rule.{run, takeOf, thriceOf, member, thrice}
-use Rattle.parse.proofs.Loop.{both, if-same, by-test}
+use Rattle.parse.specs.Rule.{run, takeOf, thriceOf, thrice}
 use Rattle.parse.proofs.Moves.{step-over, step-stays}
 use Rattle.parse.proofs.Steps.{plus, put-plus, moved-next, moved-end, moved-full, step-next, take-next, going-flow, retried-going}
 use Rattle.myanmar.specs.Grammar.{scalarAt, isKinzi, kinzi, cluster}
@@ -34,7 +35,7 @@ scalar-inside text i x e h = by-test (ltb i (length text)) (ltb-true i (length t
 module _ (text : List ℕ) (i : ℕ) (k : isKinzi text i ≡ true) where
   pub kinzi-second : (scalarAt text (i + 1) ≡ ASAT) × (scalarAt text (i + 2) ≡ VIRAMA)
   unfolding isKinzi
-  kinzi-second = let z = both (member kinziFirsts (scalarAt text i)) _ k .1 in let y = both (eqb (scalarAt text (i + 1)) ASAT) _ z in
+  kinzi-second = let z = both-of (member kinziFirsts (scalarAt text i)) _ k .1 in let y = both-of (eqb (scalarAt text (i + 1)) ASAT) _ z in
       (eqb-true (scalarAt text (i + 1)) ASAT (y .0), eqb-true (scalarAt text (i + 2)) VIRAMA (y .1))
 
   pub kinzi-inside : i + 2 < length text
@@ -73,7 +74,7 @@ module _ (text : List ℕ) (i : ℕ) (k : isKinzi text i ≡ true) where
         ap retriedOf (step-next text (withPlace (i + 1) p) (omega arith) (omega (arith, kinzi-inside)) (rw two (ap (λ x. eqb x CGJ) (kinzi-second .1)))) ∙ retried-going (withPlace (i + 1 + 1) p) refl in
         ap (λ q. ignoredStep text (ignoredStep text q)) e₁ ∙ ap (ignoredStep text) e₂ ∙ ap (λ j. ignoredStep text (withPlace j p)) two
 
-    -- Wherever a kinzi is met, "three pushes, three steps whose failure is ignored" leave what the rule leaves.
+    -- Wherever a kinzi is met, three pushes and three steps whose failure is not looked at leave what the rule leaves.
     pub kinzi-as-rust : run (thrice Kinzi) text start ≡ kinziAsRust text start
     unfolding run
     kinzi-as-rust = ap retriedOf thrice-steps ∙ sym rust-steps
@@ -146,7 +147,7 @@ module _ (text : List ℕ) where
       (λ l. let k = ltb-false (s .len) 32 l in
       ap (λ (q : Parse). isEnd (q .flow)) (sym (step-stays text s _ (sym (moved-full (length text) s k)) refl)) ∙ sym (reaches-full s k h))
 
--- the text ends behind a kinzi, within the cluster, exactly where document 01 says so
+-- the text ends behind a kinzi, within the cluster, exactly where SCOPE 6.8 says so
 pub kinzi-ends : (text : List ℕ) (i : ℕ) → isKinzi text i ≡ true → (m : Mode) → isEnd ((thriceOf text Kinzi (begin (record { at = i }) m true)) .flow) ≡ endsBehind text i
 kinzi-ends text i k m =
     ap (λ (q : Parse). isEnd (q .flow)) (thrice-steps text i k m)

@@ -1,14 +1,15 @@
--- Repeat (b) happens exactly where document 01 has it: a call sets `again` there and nowhere else, and where it is set the text's last
+-- Repeat (b) happens exactly where SCOPE 6.8 has it: a call sets `again` there and nowhere else, and where it is set the text's last
 -- token has been pushed a second time. Assumes nothing.
 use Prim.Native.Nat.{ℕ, _+_, _-_, _<_}
 use mathlib.Core.Path.{_≡_, refl, sym, _∙_, ap, subst}
-use mathlib.Core.Bool.{Bool, true, false, cond}
+use mathlib.Core.Bool.{Bool, true, false, cond, false≢true}
 use mathlib.Core.List.{List}
 use native.Mathlib.Omega.{arith}
 use lib.Dec.{ltb}
 use lib.ListN.{length, getD, length-set}
 use lib.Seq.{getD-set-same}
 use borrow.Author.Tests.{lt-ltb}
+use Rattle.basics.proofs.Tests.{if-intro, by-test}
 use Rattle.classes.specs.declared.Mode.{Mode}
 use Rattle.classes.specs.declared.Mode.the-variants.{Crate, Whole}
 use Rattle.classes.specs.declared.Shape.{Shape}
@@ -22,7 +23,6 @@ use Rattle.parse.specs.State.{tokenAt, begin, nothing, charOf, isGoing, going, 
 use Rattle.parse.specs.Rule.{Rule, skip, mark, seq, thrice, run, take, thriceOf, is, isEmoji, setBroken, _▸_}
 use Rattle.parse.specs.Shared.{emojiMark, emojiExtension, emojiTurn, emojis, newline, otherArm}
 use Rattle.parse.specs.Cover.{repeats}
-use Rattle.parse.proofs.Loop.{false-true, if-intro, by-test}
 use Rattle.parse.proofs.Moves.{moved-case, step-stays}
 use Rattle.parse.proofs.Steps.{plus, put-plus}
 use Rattle.parse.proofs.Keeps.{Keeps, thrice-keeps, thrice-mode}
@@ -34,10 +34,10 @@ use Rattle.myanmar.specs.Repeat.{endsBehind, repeatB}
 use Rattle.myanmar.proofs.Kinzi.{isEnd, kinzi-ends}
 
 going-end : (f : Flow) → isGoing f ≡ true → isEnd f ≡ true → ⊥
-going-end GoOn g e = false-true e
-going-end Stop g e = false-true e
-going-end Full g e = false-true e
-going-end End g e = false-true g
+going-end GoOn g e = false≢true e
+going-end Stop g e = false≢true e
+going-end Full g e = false≢true e
+going-end End g e = false≢true g
 
 resumed-end : (f : Flow) → isEnd (goOn f) ≡ true → isEnd f ≡ true
 resumed-end GoOn e = e
@@ -46,10 +46,10 @@ resumed-end Full e = e
 resumed-end End e = e
 
 passes-end : (m : Mode) (f : Flow) (a : Bool) → passesEnd m f a ≡ true → (m ≡ Crate) × (isEnd f ≡ true)
-passes-end Whole f a e = absurd (false-true e)
-passes-end Crate GoOn a e = absurd (false-true e)
-passes-end Crate Stop a e = absurd (false-true e)
-passes-end Crate Full a e = absurd (false-true e)
+passes-end Whole f a e = absurd (false≢true e)
+passes-end Crate GoOn a e = absurd (false≢true e)
+passes-end Crate Stop a e = absurd (false≢true e)
+passes-end Crate Full a e = absurd (false≢true e)
 passes-end Crate End a e = (refl, refl)
 
 -- what holds in crate mode alone
@@ -98,7 +98,7 @@ module _ (text : List ℕ) where
   moved-inside s (n, g, i) = moved-case Inside (length text) s
       (λ l h. (n, λ m. (h, λ e. absurd (going-end (s .flow) g e))))
       (λ l h. (n, λ m. (i m, λ e. (refl, omega (arith, i m, rw (lt-ltb (s .at) (length text) (i m)) at h), l))))
-      (λ l. (n, λ m. (rw m (i m), λ e. absurd (false-true e))))
+      (λ l. (n, λ m. (rw m (i m), λ e. absurd (false≢true e))))
 
   inside : Keeps text Inside Spent
   inside = record {
@@ -108,10 +108,10 @@ module _ (text : List ℕ) where
         (λ h. put-spent Other s g i);
     moved = moved-inside;
     marked = λ j s i. i;
-    stopped = λ s g i. (i .0, λ m. (i .1 m .0, λ e. absurd (false-true e)));
+    stopped = λ s g i. (i .0, λ m. (i .1 m .0, λ e. absurd (false≢true e)));
     resumed = λ s i. (i .0, λ m. (i .1 m .0, λ e. i .1 m .1 (resumed-end (s .flow) e)));
     retried = λ s i. if-intro Inside (passesEnd (s .mode) (s .flow) (s .again)) _ _
-        (λ h. (i .0, λ m. (i .1 m .0, λ e. absurd (false-true e)))) (λ h. i);
+        (λ h. (i .0, λ m. (i .1 m .0, λ e. absurd (false≢true e)))) (λ h. i);
   }
 
   -- the text has ended, and its last token is to be read again
@@ -128,9 +128,9 @@ module _ (text : List ℕ) where
       (λ h. if-intro (λ q. q .again ≡ true → Ready q) (going s) _ s
       (λ g. if-intro (λ q. q .again ≡ true → Ready q) (passesEnd (r .mode) (r .flow) (r .again)) _ r
       (λ e a. let p = passes-end (r .mode) (r .flow) (r .again) e in
-      let k = kept .1 (p .0) .1 (p .1) in (p .0, refl, k .0, refl, k .1, k .2, kept .0)) (λ e a. absurd (false-true (sym same ∙ a))))
-      (λ g a. absurd (false-true (sym n ∙ a))))
-      (λ h a. absurd (false-true (sym n ∙ a)))
+      let k = kept .1 (p .0) .1 (p .1) in (p .0, refl, k .0, refl, k .1, k .2, kept .0)) (λ e a. absurd (false≢true (sym same ∙ a))))
+      (λ g a. absurd (false≢true (sym n ∙ a))))
+      (λ h a. absurd (false≢true (sym n ∙ a)))
     where
       r : Parse
       r = thriceOf text Kinzi s
@@ -154,7 +154,7 @@ module _ (text : List ℕ) where
       ap (λ (x : Pushed). x .noted) (ap (λ i. getD (q .chars) i nothing) (omega arith) ∙ getD-set-same (s .chars) (s .len) (charOf t c) nothing (omega arith)) in
       let shut = moved-shut q m d a l last in
       let e : stepOf text (putOf t c s) ≡ movedOf (length text) q = ap (stepOf text) (put-plus t c s k) ∙ sym (step-stays text q (movedOf (length text) q) refl (rw (shut .0))) in
-      if-intro Shut (going s) (stepOf text (putOf t c s)) s (λ b. subst Shut (sym e) shut) (λ b. absurd (false-true (sym b ∙ g)))
+      if-intro Shut (going s) (stepOf text (putOf t c s)) s (λ b. subst Shut (sym e) shut) (λ b. absurd (false≢true (sym b ∙ g)))
 
   seq-shut : (a b : Rule) (s : Parse) → Shut (run a text s) → Shut (run (seq a b) text s)
   seq-shut a b s k = subst Shut (sym (run-still b text (run a text s) (k .0)) ∙ sym (run-seq a b text s)) k
@@ -175,7 +175,7 @@ module _ (text : List ℕ) where
   Told s = s .again ≡ true → Shut s
 
   free-told : (r : Rule) (s : Parse) → free r ≡ true → s .again ≡ false → Told (run r text s)
-  free-told r s k n a = absurd (false-true (sym (run-again text r s k ∙ n) ∙ a))
+  free-told r s k n a = absurd (false≢true (sym (run-again text r s k ∙ n) ∙ a))
 
   kinzi-told : (s : Parse) → Inside s → s .again ≡ false → Told (run syllable text (run kinzi text s))
   kinzi-told s i n = let q = run kinzi text s in by-test (q .again)
@@ -222,10 +222,10 @@ module _ (text : List ℕ) (i : ℕ) (mode : Mode) where
   abbrev result : Parse
   result = run cluster text (begin (record { at = i }) mode true)
 
-  -- `again` is set exactly where document 01 has repeat (b)
+  -- `again` is set exactly where SCOPE 6.8 has repeat (b)
   pub again-is : result .again ≡ inCrate mode (repeatB text i)
   again-is = cluster-says text i mode
 
   -- and there the text has ended and one token is repeated, as the last character, with no note behind it
   pub again-repeats : i < length text → result .again ≡ true → (repeats result ≡ 1) × ((getD (result .chars) (result .len - 1) nothing) .noted ≡ 0)
-  again-repeats within a = let shut = cluster-told text (begin (record { at = i }) mode true) (refl, λ m. (within, λ e. absurd (false-true e))) refl a in (shut .2, shut .3)
+  again-repeats within a = let shut = cluster-told text (begin (record { at = i }) mode true) (refl, λ m. (within, λ e. absurd (false≢true e))) refl a in (shut .2, shut .3)

@@ -11,17 +11,17 @@ use Rattle.parse.specs.Rule.{run, holds, take, is, isEmoji}
 use Rattle.parse.specs.Shared.{emojis, otherArm}
 use Rattle.myanmar.specs.Grammar.{isKinzi, isAlone, syllable}
 
--- "Three pushes"
+-- three pushes
 abbrev pub threePushes : List ℕ → Parse → Parse
 threePushes text s =
     putOf (tokenAt text (s .at + 2)) Kinzi (putOf (tokenAt text (s .at + 1)) Kinzi (putOf (tokenAt text (s .at)) Kinzi s))
 
--- a step "whose failure is ignored": at the end of the text the last token stays current. A full cluster is not passed over, since there
--- "the Rust would push a 33rd"; and in whole mode the end of the text "ends the call at once".
+-- "The Rust does not look whether these steps failed" (SCOPE 6.8): at the end of the text the last token stays current. A full cluster
+-- is not passed over, since there "the Rust would go on to a 33rd"; and in whole mode the end of the text ends the call (6.9).
 abbrev pub ignoredStep : List ℕ → Parse → Parse
 ignoredStep text s = retriedOf (stepOf text s)
 
--- "Three pushes, three steps whose failure is ignored."
+-- three pushes, three such steps
 unfoldable pub kinziAsRust : List ℕ → Parse → Parse
 kinziAsRust text s = ignoredStep text (ignoredStep text (ignoredStep text (threePushes text s)))
 

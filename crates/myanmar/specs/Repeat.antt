@@ -1,6 +1,7 @@
--- Repeat (b), as document 01 has it: "Kinzi: U+1004, 101B or 105A, then 103A, then 1039, in the arm after O and P, S, R, WJ, D0. … If the
--- text ends there, or after U+034F only, the last token is pushed again in the same cluster, and the next place is the end, also where
--- this push is the 32nd. This is repeat (b). If those fill 32, the Rust would push a 33rd; the port ends the call with 32".
+-- Repeat (b), as SCOPE 6.8 has it. A kinzi "begins a call or is none, its first token has no emoji mark and a class other than O, P, S,
+-- R, WJ and D0". If "the text is over, behind the third or behind the U+034F", then "in crate mode the last token is current still
+-- and is taken once more, by its own class", and "the call hands back the end, even if this was the 32nd character". If by then "there
+-- are 32 characters", the call ends with them, and this is no repeat (b).
 use Prim.Native.Nat.{ℕ, _+_}
 use mathlib.Core.Bool.{Bool, true, false, cond}
 use mathlib.Core.List.{List, [], _∷_}
@@ -12,16 +13,16 @@ use Rattle.token.specs.Token.{scalarOf}
 use Rattle.parse.specs.Rule.{Test, is, isEmoji}
 use Rattle.myanmar.specs.Grammar.{isAlone, isKinzi}
 
--- "the arm after O and P, S, R, WJ, D0", and no emoji
+-- "no emoji mark and a class other than O, P, S, R, WJ and D0"
 abbrev pub inLastArm : Test
 inLastArm text i = cond (isEmoji text i) false (cond (is O text i) false (cond (isAlone text i) false true))
 
--- "U+034F only"
+-- none but U+034F
 abbrev pub onlyJoiners : List ℕ → Bool
 onlyJoiners [] = true
 onlyJoiners (t ∷ ts) = cond (eqb (scalarOf t) CGJ) (onlyJoiners ts) false
 
--- "the text ends there, or after U+034F only", and with the kinzi these do not "fill 32"
+-- the text is over behind the kinzi or behind the U+034F after it, and these are fewer than 32 together
 abbrev pub endsBehind : List ℕ → ℕ → Bool
 endsBehind text i = cond (onlyJoiners (drop (i + 3) text)) (ltb (length text) (i + 32)) false
 

@@ -6,9 +6,10 @@ use parse::Parse;
 use parse::state::token_at;
 ghost use mathlib.Core.Path.{_≡_};
 ghost use Prim.Native.Nat.{_+_};
+ghost use Rattle.basics.specs.Sets.{member};
 ghost use Rattle.classes.specs.MyanmarClass as class;
 ghost use Rattle.classes.specs.Scalar.{kinziFirsts};
-ghost use Rattle.parse.specs.Rule.{run, holds, while, member, is};
+ghost use Rattle.parse.specs.Rule.{run, holds, while, is};
 ghost use Rattle.myanmar.specs.Grammar.{scalarAt, isKinzi, acceptWithAs, stacked, postBaseVowel, pwoToneMark, medials, vowels, finals, kinzi, syllable, alone, isAlone, cluster};
 
 fn accept_with_as(mut s: Parse, text: &[u64], kind: u8) -> Parse

@@ -2,10 +2,11 @@
 -- end of the text. Assumes nothing.
 use Prim.Native.Nat.{ℕ, zero, suc}
 use mathlib.Core.Path.{_≡_, refl, sym, _∙_, ap}
-use mathlib.Core.Bool.{Bool, true, false, cond}
+use mathlib.Core.Bool.{Bool, true, false, cond, false≢true}
 use mathlib.Core.List.{List}
 use lib.Dec.{ltb}
 use lib.ListN.{length}
+use Rattle.basics.proofs.Tests.{if-intro, by-test}
 use Rattle.classes.specs.declared.Shape.{Shape}
 use Rattle.classes.specs.declared.Shape.the-variants.{Other}
 use Rattle.parse.specs.declared.Parse.{Parse}
@@ -14,8 +15,8 @@ use Rattle.classes.specs.declared.Mode.the-variants.{Crate, Whole}
 use Rattle.parse.specs.declared.Flow.{Flow}
 use Rattle.parse.specs.declared.Flow.the-variants.{GoOn, Stop, Full, End}
 use Rattle.parse.specs.State.{tokenAt, placeAfter, begin, inMode, isGoing, going, atMost, loop, turns, putOf, notedOf, movedOf, stepOf, pushOf, noteOf, onJoiner, hop, goOn, passesEnd, resumedOf, retriedOf}
-use Rattle.parse.specs.Rule.{Rule, skip, stop, push, note, mark, seq, choose, while, part, thrice, run, holds, takeOf, thriceOf}
-use Rattle.parse.proofs.Loop.{false-true, if-intro, by-test, at-most-keeps, loop-keeps}
+use Rattle.parse.specs.Rule.{Rule, skip, stop, push, note, mark, seq, choose, while, scope, thrice, run, holds, takeOf, thriceOf}
+use Rattle.parse.proofs.Loop.{at-most-keeps, loop-keeps}
 use Rattle.parse.proofs.Moves.{moved-case, put-same, noted-same}
 use Rattle.parse.proofs.Keeps.{Keeps, hop-keeps, take-keeps, run-keeps}
 
@@ -35,7 +36,7 @@ up s = inMode Whole s
 -- what stays false once it is false was true before
 before : (a b : Bool) → (a ≡ false → b ≡ false) → b ≡ true → a ≡ true
 before true b k h = refl
-before false b k h = absurd (false-true (sym (k refl) ∙ h))
+before false b k h = absurd (false≢true (sym (k refl) ∙ h))
 
 not-fine : (a : Bool) (f : Flow) → isGoing f ≡ true → cond a false (notFull f) ≡ false → a ≡ true
 not-fine true f g n = refl
@@ -92,8 +93,8 @@ noted-agrees t s = if-intro (λ q. notedOf t (up s) ≡ up q) (ltb 0 (s .len)) _
     (λ h. rw h (put-agrees t Other s))
 
 full-not : (a : Bool) → cond a false false ≡ true → ⊥
-full-not true e = false-true e
-full-not false e = false-true e
+full-not true e = false≢true e
+full-not false e = false≢true e
 
 moved-agrees : (n : ℕ) (s : Parse) → fine (movedOf n s) ≡ true → movedOf n (up s) ≡ up (movedOf n s)
 moved-agrees n s = if-intro (λ q. fine q ≡ true → movedOf n (up s) ≡ up q) (ltb (s .len) 32) _ _
@@ -101,7 +102,7 @@ moved-agrees n s = if-intro (λ q. fine q ≡ true → movedOf n (up s) ≡ up q
     (λ h f. absurd (full-not (s .again) f))
 
 retried-agrees : (s : Parse) → fine (retriedOf s) ≡ true → up s ≡ up (retriedOf s)
-retried-agrees s = if-intro (λ q. fine q ≡ true → up s ≡ up q) (passesEnd (s .mode) (s .flow) (s .again)) _ _ (λ h f. absurd (false-true f)) (λ h f. refl)
+retried-agrees s = if-intro (λ q. fine q ≡ true → up s ≡ up q) (passesEnd (s .mode) (s .flow) (s .again)) _ _ (λ h f. absurd (false≢true f)) (λ h f. refl)
 
 module _ (text : List ℕ) where
   abbrev unless : Keeps text (λ q. fine q ≡ false) (λ q. q .again ≡ true)
@@ -158,7 +159,7 @@ module _ (text : List ℕ) where
   run-agrees (choose p a b) s f = if-intro (λ q. fine q ≡ true → run (choose p a b) text (up s) ≡ up q) (holds text p s) _ _
       (λ h g. rw h (run-agrees a s g)) (λ h g. rw h (run-agrees b s g)) f
   run-agrees (while p a) s f = loop-agrees text (holds text p) (run a text) (λ q. refl) (λ q g. run-agrees a q g) (λ q n h. run-keeps text _ _ unless a q n) s f
-  run-agrees (part a) s f = if-intro (λ q. fine q ≡ true → run (part a) text (up s) ≡ up q) (going s) _ _
+  run-agrees (scope a) s f = if-intro (λ q. fine q ≡ true → run (scope a) text (up s) ≡ up q) (going s) _ _
       (λ g h. rw g (ap resumedOf (run-agrees a s (before (fine (run a text s)) _ (unless .resumed (run a text s)) h)))) (λ g h. rw g) f
   run-agrees (thrice c) s f = if-intro (λ q. fine q ≡ true → run (thrice c) text (up s) ≡ up q) (going s) _ _
       (λ g h. let r = thriceOf text c s in

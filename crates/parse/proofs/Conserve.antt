@@ -3,7 +3,7 @@
 -- the end of the text. Assumes nothing.
 use Prim.Native.Nat.{ℕ, zero, suc, _+_, _-_, _<_, _≤_}
 use mathlib.Core.Path.{_≡_, refl, sym, _∙_, ap, subst}
-use mathlib.Core.Bool.{Bool, true, false, cond}
+use mathlib.Core.Bool.{Bool, true, false, cond, false≢true}
 use mathlib.Core.List.{List}
 use mathlib.Core.Logic.{_⊎_, inl, inr}
 use native.Mathlib.Omega.{arith}
@@ -11,6 +11,7 @@ use borrow.Author.Tests.{lt-ltb, ltb-true, ltb-false}
 use lib.Dec.{ltb}
 use lib.ListN.{length, take, set, getD, length-set}
 use lib.Seq.{length-take-le, getD-set-same}
+use Rattle.basics.proofs.Tests.{if-intro, by-test}
 use Rattle.classes.specs.declared.Shape.{Shape}
 use Rattle.classes.specs.declared.Shape.the-variants.{Other}
 use Rattle.parse.specs.declared.Parse.{Parse}
@@ -23,7 +24,6 @@ use Rattle.parse.specs.declared.Flow.the-variants.{GoOn, Stop, Full, End
 use Rattle.parse.specs.State.{tokenAt, filledAt, placeOf, clusterOf, begin, nothing, isGoing, going, withFlow, withAgain, charOf, putOf, notedMore, notedOf, movedOf, goOn, resumedOf, passesEnd, retriedOf}
 use Rattle.parse.specs.Rule.{Rule, run}
 use Rattle.parse.specs.Cover.{look, IsOf, Covers, pushed, butLast, Repeating, notes, repeatsOf, repeats}
-use Rattle.parse.proofs.Loop.{false-true, if-intro, by-test}
 use Rattle.parse.proofs.Moves.{moved-case}
 use Rattle.parse.proofs.Keeps.{Keeps, run-keeps, run-at, run-mode, place-in}
 use Rattle.parse.proofs.Covered.{cover-count, cover-same, cells-put, cells-note, cells-last}
@@ -45,11 +45,11 @@ resumed-open Full o = o
 resumed-open End o = o
 
 passes-end : (m : Mode) (f : Flow) (a : Bool) → passesEnd m f a ≡ true → (m ≡ Crate) × (f ≡ End) × (a ≡ false)
-passes-end Whole f a e = absurd (false-true e)
-passes-end Crate GoOn a e = absurd (false-true e)
-passes-end Crate Stop a e = absurd (false-true e)
-passes-end Crate Full a e = absurd (false-true e)
-passes-end Crate End true e = absurd (false-true e)
+passes-end Whole f a e = absurd (false≢true e)
+passes-end Crate GoOn a e = absurd (false≢true e)
+passes-end Crate Stop a e = absurd (false≢true e)
+passes-end Crate Full a e = absurd (false≢true e)
+passes-end Crate End true e = absurd (false≢true e)
 passes-end Crate End false e = (refl, refl, refl)
 
 -- places and tokens of the stream
@@ -110,8 +110,8 @@ module _ (text : List ℕ) (start : ℕ) where
 
   ready : (s : Parse) → going s ≡ true → Open s ⊎ (Ended s ⊎ Filled s) → Open s
   ready s g (inl o) = o
-  ready s g (inr (inl e)) = absurd (false-true (rw (e .0) at g))
-  ready s g (inr (inr f)) = absurd (false-true (rw (f .0) at g))
+  ready s g (inr (inl e)) = absurd (false≢true (rw (e .0) at g))
+  ready s g (inr (inr f)) = absurd (false≢true (rw (f .0) at g))
 
   kept-put : (c : Shape) (s : Parse) → going s ≡ true → Cells s → Open s → Spent (putOf (tokenAt text (s .at)) c s)
   kept-put c s g cells (o, l, f, r) =
@@ -176,7 +176,7 @@ module _ (text : List ℕ) (start : ℕ) where
 
   -- the end is passed over: the last token is current again
   kept-again : (s : Parse) → s .mode ≡ Crate → s .flow ≡ End → s .again ≡ false → Kept s → Kept (withFlow GoOn (withAgain s))
-  kept-again s m f a (cells, inl o) = absurd (false-true (rw f at (o .0)))
+  kept-again s m f a (cells, inl o) = absurd (false≢true (rw f at (o .0)))
   kept-again s m f a (cells, inr (inl (e, d, i, l, c, r))) =
       let z : length text + cond (s .again) 1 0 ≡ placeOf text s = rw (a, d) (omega arith) in
       (cells, inl (refl, l, (omega arith, sym d, (λ h. (m, i))), subst (Reaches s) z r))
@@ -198,14 +198,14 @@ module _ (text : List ℕ) (start : ℕ) where
   }
 
   begin-kept : (p : Place) (m : Mode) (j : Bool) → p .at ≡ start → start < length text → Kept (begin p m j)
-  begin-kept p m j e h = ((refl, omega arith), inl (refl, omega arith, (rw e h, refl, (λ d. absurd (false-true d))), sym e))
+  begin-kept p m j e h = ((refl, omega arith), inl (refl, omega arith, (rw e h, refl, (λ d. absurd (false≢true d))), sym e))
 
 repeats-open : (m : Mode) (f : Flow) (a : Bool) → isOpen f ≡ true → repeatsOf m f a ≡ 0
 repeats-open Whole f a o = refl
 repeats-open Crate GoOn a o = refl
 repeats-open Crate Stop a o = refl
-repeats-open Crate Full a o = absurd (false-true o)
-repeats-open Crate End a o = absurd (false-true o)
+repeats-open Crate Full a o = absurd (false≢true o)
+repeats-open Crate End a o = absurd (false≢true o)
 
 repeats-end : (m : Mode) (a : Bool) → (a ≡ true → m ≡ Crate) → repeatsOf m End a ≡ cond a 1 0
 repeats-end Crate a k = refl
@@ -304,8 +304,8 @@ module _ (text : List ℕ) (short : length text ≤ 65535) (r : Rule) (p : Place
       go zero c = absurd (omega (arith, forward, c))
       go (suc n) c = omega arith
 
-  -- Repeat (a): "if a cluster has 32 and another follows, the other begins with the same token". The cluster has 32, and its last
-  -- character is the token at the place handed back, which is before the end.
+  -- Repeat (a): "the call hands back the place of the token that it pushed last" (SCOPE 6.7). The cluster has 32, and its last character
+  -- is the token at the place handed back, which is before the end.
   pub repeat-a : repeats result ≡ 1 → result .again ≡ false → (result .len ≡ 32) × (placeOf text result < length text) × Repeating text (p .at) (clusterOf result) (placeOf text result) (tokenAt text (placeOf text result))
   repeat-a e n =
       let k = full-repeat text (p .at) result call-kept e n in
@@ -315,7 +315,7 @@ module _ (text : List ℕ) (short : length text ≤ 65535) (r : Rule) (p : Place
   ended : repeats result ≡ 1 → result .again ≡ true → placeOf text result ≡ length text
   ended e h = rw (end-repeat text (p .at) result call-kept e h)
 
-  -- Repeat (b): "the last token is pushed again in the same cluster, and the next place is the end".
+  -- Repeat (b): the last token is taken once more, and the call hands back the end (SCOPE 6.8).
   pub repeat-b : repeats result ≡ 1 → result .again ≡ true → (getD (result .chars) (result .len - 1) nothing) .noted ≡ 0 → (placeOf text result ≡ length text) × Repeating text (p .at) (clusterOf result) (length text) (tokenAt text (length text - 1))
   repeat-b e h z =
       let d : placeOf text result ≡ length text = ended e h in
@@ -327,7 +327,7 @@ module _ (text : List ℕ) (short : length text ≤ 65535) (r : Rule) (p : Place
       let n : length (pushed result) ≡ result .len = length-take-le (result .len) (result .chars) (omega (arith, call-kept .0 .0, call-kept .0 .1)) in
       omega (arith, n, cover-count (look text) (pushed result) (p .at) (placeOf text result + repeats result) conserve)
 
-  -- Passed = pushed + noted, less one at a repeat; "passed" is "the distance between the two places".
+  -- Passed = pushed + noted, less one at a repeat; passed is the next place minus the place.
   pub passed : placeOf text result - p .at ≡ result .len + notes (pushed result) - repeats result
   passed = omega (arith, counted, forward)
 

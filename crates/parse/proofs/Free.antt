@@ -1,15 +1,16 @@
 -- A rule without a kinzi never reads a token again: it leaves `again` as it was. Assumes nothing.
 use Prim.Native.Nat.{ℕ}
 use mathlib.Core.Path.{_≡_, refl, _∙_}
-use mathlib.Core.Bool.{Bool, true, false, cond}
+use mathlib.Core.Bool.{Bool, true, false, cond, false≢true}
 use mathlib.Core.List.{List}
 use lib.ListN.{length}
+use Rattle.basics.proofs.Tests.{if-same, both-of}
 use Rattle.classes.specs.declared.Shape.{Shape}
 use Rattle.classes.specs.declared.Shape.the-variants.{Other}
 use Rattle.parse.specs.declared.Parse.{Parse}
 use Rattle.parse.specs.State.{tokenAt, going, putOf, notedOf, movedOf, onJoiner, hop, stepOf, pushOf, noteOf}
-use Rattle.parse.specs.Rule.{Rule, skip, stop, push, note, mark, seq, choose, while, part, thrice, run, holds, takeOf, thriceOf}
-use Rattle.parse.proofs.Loop.{false-true, if-same, both, loop-keeps}
+use Rattle.parse.specs.Rule.{Rule, skip, stop, push, note, mark, seq, choose, while, scope, thrice, run, holds, takeOf, thriceOf}
+use Rattle.parse.proofs.Loop.{loop-keeps}
 use Rattle.parse.proofs.Moves.{put-same, noted-same, moved-case}
 
 -- a rule with no kinzi in it
@@ -22,7 +23,7 @@ free (mark f) = true
 free (seq a b) = cond (free a) (free b) false
 free (choose p a b) = cond (free a) (free b) false
 free (while p a) = free a
-free (part a) = free a
+free (scope a) = free a
 free (thrice c) = false
 
 abbrev againOf : Parse → Bool
@@ -57,9 +58,9 @@ module _ (text : List ℕ) where
   run-again note s k = let t = tokenAt text (s .at) in
       if-same againOf (going s) _ s (s .again) (step-again (notedOf t s) ∙ noted-same againOf (λ n cs q. refl) t s) refl
   run-again (mark f) s k = if-same againOf (going s) _ s (s .again) refl refl
-  run-again (seq a b) s k = let h = both (free a) (free b) k in run-again b (run a text s) (h .1) ∙ run-again a s (h .0)
-  run-again (choose p a b) s k = let h = both (free a) (free b) k in
+  run-again (seq a b) s k = let h = both-of (free a) (free b) k in run-again b (run a text s) (h .1) ∙ run-again a s (h .0)
+  run-again (choose p a b) s k = let h = both-of (free a) (free b) k in
       if-same againOf (holds text p s) (run a text s) (run b text s) (s .again) (run-again a s (h .0)) (run-again b s (h .1))
   run-again (while p a) s k = loop-keeps text (holds text p) (run a text) (λ q. q .again ≡ s .again) (λ q i h. run-again a q k ∙ i) s refl
-  run-again (part a) s k = if-same againOf (going s) _ s (s .again) (run-again a s k) refl
-  run-again (thrice c) s k = absurd (false-true k)
+  run-again (scope a) s k = if-same againOf (going s) _ s (s .again) (run-again a s k) refl
+  run-again (thrice c) s k = absurd (false≢true k)

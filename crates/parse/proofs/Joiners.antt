@@ -8,14 +8,15 @@ use native.Mathlib.Nat.{le-refl, le-trans, le-of-eq}
 use lib.Dec.{eqb, ltb}
 use lib.ListN.{length, set, List·getD-eq-default}
 use borrow.Author.Tests.{lt-ltb, ltb-true, ltb-false, eq-eqb, ne-eqb, eqb-true, eqb-false}
+use Rattle.basics.proofs.Tests.{by-test, if-intro}
 use Rattle.classes.specs.declared.Shape.{Shape}
 use Rattle.classes.specs.declared.Shape.the-variants.{Other}
 use Rattle.classes.specs.Scalar.{CGJ}
 use Rattle.token.specs.Token.{scalarOf}
 use Rattle.parse.specs.declared.Parse.{Parse}
 use Rattle.parse.specs.declared.Pushed.{Pushed}
-use Rattle.parse.specs.State.{tokenAt, placeAfter, going, withPlace, withCells, charOf, putOf, movedOf, onJoiner, stepOf, pushOf, stepPast, lastPushed}
-use Rattle.parse.proofs.Loop.{by-test, if-intro}
+use Rattle.parse.specs.State.{tokenAt, placeAfter, going, withPlace, withCells, charOf, putOf, movedOf, onJoiner, stepOf, pushOf}
+use Rattle.parse.specs.Inner.{stepPast, lastPushed}
 use Rattle.parse.proofs.Moves.{put-same, place-le, moved-case, step-over, step-stays}
 
 -- the count, turn by turn: k is the place after i, x the scalar there

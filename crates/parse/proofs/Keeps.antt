@@ -9,6 +9,7 @@ use native.Mathlib.Nat.{le-refl, le-trans}
 use lib.Dec.{ltb}
 use lib.ListN.{length}
 use borrow.Author.Tests.{ltb-true}
+use Rattle.basics.proofs.Tests.{if-intro}
 use Rattle.classes.specs.declared.Shape.{Shape}
 use Rattle.classes.specs.declared.Shape.the-variants.{Other}
 use Rattle.parse.specs.declared.Parse.{Parse}
@@ -19,8 +20,8 @@ use Rattle.classes.specs.declared.Mode.the-variants.{Crate, Whole}
 use Rattle.parse.specs.declared.Flow.{Flow}
 use Rattle.parse.specs.declared.Flow.the-variants.{GoOn, Stop}
 use Rattle.parse.specs.State.{tokenAt, placeAfter, filledAt, placeOf, going, withFlow, withCells, withInfo, withAgain, putOf, notedOf, movedOf, stepOf, pushOf, noteOf, onJoiner, hop, goOn, passesEnd, resumedOf, retriedOf}
-use Rattle.parse.specs.Rule.{Rule, skip, stop, push, note, mark, seq, choose, while, part, thrice, run, holds, takeOf, thriceOf}
-use Rattle.parse.proofs.Loop.{if-intro, loop-keeps}
+use Rattle.parse.specs.Rule.{Rule, skip, stop, push, note, mark, seq, choose, while, scope, thrice, run, holds, takeOf, thriceOf}
+use Rattle.parse.proofs.Loop.{loop-keeps}
 use Rattle.parse.proofs.Moves.{joiner-going, moved-case, moved-at}
 
 -- I holds where the current token is still to be pushed or noted, J where it has been and is to be stepped off
@@ -66,7 +67,7 @@ module _ (text : List ℕ) (I J : Parse → Type 0) (k : Keeps text I J) where
   run-keeps (seq a b) s i = run-keeps b (run a text s) (run-keeps a s i)
   run-keeps (choose p a b) s i = if-intro I (holds text p s) _ _ (λ g. run-keeps a s i) (λ g. run-keeps b s i)
   run-keeps (while p a) s i = loop-keeps text (holds text p) (run a text) I (λ q j h. run-keeps a q j) s i
-  run-keeps (part a) s i = if-intro I (going s) _ _ (λ g. k .resumed (run a text s) (run-keeps a s i)) (λ g. i)
+  run-keeps (scope a) s i = if-intro I (going s) _ _ (λ g. k .resumed (run a text s) (run-keeps a s i)) (λ g. i)
   run-keeps (thrice c) s i = if-intro I (going s) _ _ (λ g. k .retried (thriceOf text c s) (thrice-keeps c s i)) (λ g. i)
 
 -- what a change of cells keeps, a put and a note keep
@@ -153,7 +154,7 @@ place-in r text s w = if-intro (λ k. k ≤ length text) ((run r text s) .done) 
 put-most : (t : ℕ) (c : Shape) (s : Parse) → s .len ≤ 32 → (putOf t c s) .len ≤ 32
 put-most t c s i = if-intro (λ (q : Parse). q .len ≤ 32) (ltb (s .len) 32) _ _ (λ h. omega (arith, ltb-true (s .len) 32 h)) (λ h. i)
 
--- "at most 32 pushed characters"
+-- "a cluster has 32 characters at most" (SCOPE 2.3)
 pub run-most : (r : Rule) (text : List ℕ) (s : Parse) → s .len ≤ 32 → (run r text s) .len ≤ 32
 run-most r text s w = run-keeps text (λ q. q .len ≤ 32) (λ q. q .len ≤ 32)
     (record {

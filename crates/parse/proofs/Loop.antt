@@ -2,35 +2,13 @@
 -- each turn keeps. Assumes nothing.
 use Prim.Native.Nat.{ℕ, zero, suc, _<_, _≤_}
 use mathlib.Core.Path.{_≡_, refl, sym, _∙_}
-use mathlib.Core.Bool.{Bool, true, false, cond}
+use mathlib.Core.Bool.{Bool, true, false}
 use mathlib.Core.List.{List}
 use native.Mathlib.Omega.{arith}
 use native.Mathlib.Nat.{le-refl}
+use Rattle.basics.proofs.Tests.{by-test, if-intro}
 use Rattle.parse.specs.declared.Parse.{Parse}
 use Rattle.parse.specs.State.{atMost, loop, turns}
-
-pub false-true : false ≡ true → ⊥
-false-true e = let z : _≡_ {A = ℕ} 0 1 = cc in omega arith
-
--- what holds of both arms, each with its test, holds of the choice
-pub if-intro : {A : Type 0} (P : A → Type 0) (b : Bool) (x y : A) → (b ≡ true → P x) → (b ≡ false → P y) → P (cond b x y)
-if-intro P true x y f g = f refl
-if-intro P false x y f g = g refl
-
--- what has the same value in both arms has it in the choice
-pub if-same : {A B : Type 0} (f : A → B) (b : Bool) (x y : A) (z : B) → f x ≡ z → f y ≡ z → f (cond b x y) ≡ z
-if-same f true x y z e h = e
-if-same f false x y z e h = h
-
--- a test either way
-pub by-test : {A : Type 0} (b : Bool) → (b ≡ true → A) → (b ≡ false → A) → A
-by-test true f g = f refl
-by-test false f g = g refl
-
--- both of two tests
-pub both : (a b : Bool) → cond a b false ≡ true → (a ≡ true) × (b ≡ true)
-both true b e = (refl, e)
-both false b e = absurd (false-true e)
 
 -- what every turn keeps, the loop keeps
 module _ (test : Parse → Bool) (body : Parse → Parse) (I : Parse → Type 0) (keeps : (s : Parse) → I s → test s ≡ true → I (body s)) where

@@ -8,6 +8,7 @@ use native.Mathlib.Nat.{le-refl, lt-trans}
 use lib.Dec.{ltb}
 use lib.ListN.{length}
 use borrow.Author.Tests.{ltb-true, ltb-false}
+use Rattle.basics.proofs.Tests.{if-intro, if-same}
 use Rattle.classes.specs.declared.Shape.{Shape}
 use Rattle.classes.specs.declared.Shape.the-variants.{Other}
 use Rattle.parse.specs.declared.Parse.{Parse}
@@ -16,7 +17,7 @@ use Rattle.classes.specs.declared.Mode.{Mode}
 use Rattle.classes.specs.declared.Mode.the-variants.{Crate, Whole}
 use Rattle.parse.specs.declared.Flow.the-variants.{Full, End}
 use Rattle.parse.specs.State.{tokenAt, placeAfter, filledAt, turns, going, withPlace, withFlow, withDone, withCells, putOf, notedOf, movedOf, onJoiner, hop, stepOf, pushOf, noteOf}
-use Rattle.parse.proofs.Loop.{if-intro, if-same, Falls, loop-goes, loop-stays, loop-keeps}
+use Rattle.parse.proofs.Loop.{Falls, loop-goes, loop-stays, loop-keeps}
 
 -- what changes with no cell, a put and a note leave
 module _ {A : Type 0} (f : Parse → A) (same : (n : ℕ) (cs : List Pushed) (s : Parse) → f (withCells n cs s) ≡ f s) (t : ℕ) (s : Parse) where

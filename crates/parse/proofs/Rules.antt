@@ -2,11 +2,10 @@
 -- over a ruleset follows the code. Assumes nothing.
 use Prim.Native.Nat.{ℕ, _<_}
 use mathlib.Core.Path.{_≡_, refl, sym, _∙_, ap}
-use mathlib.Core.Bool.{Bool, true, false, cond}
+use mathlib.Core.Bool.{Bool, true, false, cond, false≢true, _||_}
 use mathlib.Core.List.{List, [], _∷_}
-use lib.Dec.{eqb}
 use lib.ListN.{length}
-use borrow.Author.Tests.{eq-eqb, ne-eqb}
+use Rattle.basics.specs.Sets.{member}
 use Rattle.classes.specs.declared.Shape.{Shape}
 use Rattle.classes.specs.declared.Shape.the-variants.{Other}
 use Rattle.token.specs.Token.{kindOf}
@@ -14,8 +13,7 @@ use Rattle.parse.specs.declared.Parse.{Parse}
 use Rattle.parse.specs.declared.Info.{Info}
 use Rattle.parse.specs.declared.Flow.the-variants.{Stop}
 use Rattle.parse.specs.State.{tokenAt, turns, going, withFlow, withInfo, movedOf, onJoiner, pushOf, notedOf, noteOf, stepOf, resumedOf, retriedOf}
-use Rattle.parse.specs.Rule.{Test, Rule, skip, stop, push, note, mark, seq, choose, while, part, thrice, run, takeOf, thriceOf, holds, take, either, member, oneOf, kindHere, is}
-use Rattle.parse.proofs.Loop.{false-true}
+use Rattle.parse.specs.Rule.{Test, Rule, skip, stop, push, note, mark, seq, choose, while, scope, thrice, run, takeOf, thriceOf, holds, take, either, oneOf, kindHere, is}
 use Rattle.parse.proofs.Moves.{joiner-going, step-over}
 use Rattle.parse.proofs.Runs.{moves, run-still, run-goes, run-stays, run-falls, run-seq, run-then, run-else}
 
@@ -42,9 +40,9 @@ module _ (text : List ℕ) (s r : Parse) where
   unfolding run thriceOf
   by-thrice c q u v t e h a b d j = j ∙ ap retriedOf (d ∙ ap (takeOf text c) (b ∙ ap (takeOf text c) a)) ∙ rw (sym e ∙ h)
 
-  pub by-part : (a : Rule) (q : Parse) (t : Bool) → t ≡ going s → t ≡ true → q ≡ run a text s → r ≡ resumedOf q → r ≡ run (part a) text s
+  pub by-scope : (a : Rule) (q : Parse) (t : Bool) → t ≡ going s → t ≡ true → q ≡ run a text s → r ≡ resumedOf q → r ≡ run (scope a) text s
   unfolding run
-  by-part a q t e h k j = j ∙ rw (k, sym e ∙ h)
+  by-scope a q t e h k j = j ∙ rw (k, sym e ∙ h)
 
   pub by-stop : (t : Bool) → t ≡ going s → t ≡ true → r ≡ withFlow Stop s → r ≡ run stop text s
   unfolding run
@@ -71,18 +69,18 @@ module _ (text : List ℕ) (s r : Parse) where
   pub by-else : (p : Test) (a b : Rule) (t : Bool) → t ≡ holds text p s → t ≡ false → r ≡ run b text s → r ≡ run (choose p a b) text s
   by-else p a b t e h q = q ∙ sym (run-else p a b text s (sym e ∙ h))
 
-pub ruleset rules = (by-skip, by-push, by-note, by-part, by-thrice, by-stop, by-mark, by-still, by-then, by-else, by-seq)
+pub ruleset rules = (by-skip, by-push, by-note, by-scope, by-thrice, by-stop, by-mark, by-still, by-then, by-else, by-seq)
 
 -- for more arms than `rules` reaches
 pub ruleset arms = (by-then, by-else, by-seq)
 
-either-true : (g a b : Bool) → cond g a false ≡ true → true ≡ cond g (cond a true b) false
+either-true : (g a b : Bool) → cond g a false ≡ true → true ≡ cond g (a || b) false
 either-true true true b k = refl
-either-true true false b k = absurd (false-true k)
-either-true false a b k = absurd (false-true k)
+either-true true false b k = absurd (false≢true k)
+either-true false a b k = absurd (false≢true k)
 
-either-false : (g a b : Bool) → cond g a false ≡ false → cond g b false ≡ cond g (cond a true b) false
-either-false true true b k = absurd (false-true (sym k))
+either-false : (g a b : Bool) → cond g a false ≡ false → cond g b false ≡ cond g (a || b) false
+either-false true true b k = absurd (false≢true (sym k))
 either-false true false b k = refl
 either-false false a b k = refl
 
@@ -108,7 +106,7 @@ module _ (text : List ℕ) (s : Parse) (t : Bool) where
   unfolding oneOf
   one-last k e = e ∙ go (going s) (is k text (s .at))
     where
-      go : (g a : Bool) → cond g a false ≡ cond g (cond a true false) false
+      go : (g a : Bool) → cond g a false ≡ cond g (a || false) false
       go true true = refl
       go true false = refl
       go false a = refl
@@ -123,22 +121,6 @@ module _ (text : List ℕ) (s : Parse) (t : Bool) where
       go false x = n
 
 pub ruleset tests = (either-first, either-second, one-first, one-next, one-last, kind-member)
-
-pub member-here : (x k : ℕ) (xs : List ℕ) → k ≡ x → true ≡ member (x ∷ xs) k
-member-here x k xs e = rw (eq-eqb k x e)
-
-pub member-next : (x k : ℕ) (xs : List ℕ) (t : Bool) → (k ≡ x → ⊥) → t ≡ member xs k → t ≡ member (x ∷ xs) k
-member-next x k xs t n e = rw (ne-eqb k x n) e
-
-pub member-last : (x k : ℕ) → eqb k x ≡ member (x ∷ []) k
-member-last x k = go (eqb k x)
-  where
-    go : (b : Bool) → b ≡ cond b true false
-    go true = refl
-    go false = refl
-
--- a kind against a list, one `if` after the other
-pub ruleset members = (member-here, member-next, member-last)
 
 -- a step onto a U+034F, m, which is then taken
 pub step-onto : (text : List ℕ) (s m r : Parse) → m ≡ movedOf (length text) s → onJoiner text m ≡ true → r ≡ run (take Other) text m → r ≡ stepOf text s
@@ -156,9 +138,9 @@ loop-leaves p a text s q t i e h = sym (run-stays p a text q (sym e ∙ h)) ∙ 
 pub loop-then : (p : Test) (a b : Rule) (text : List ℕ) (s q r : Parse) (t : Bool) → run (while p a) text q ≡ run (while p a) text s → t ≡ holds text p q → t ≡ false → r ≡ run b text q → r ≡ run (seq (while p a) b) text s
 loop-then p a b text s q r t i e h k = by-seq text s r (while p a) b q (loop-leaves p a text s q t i e h) k
 
--- and where it is a part behind another rule, which made m
-pub loop-part : (p : Test) (a b : Rule) (text : List ℕ) (s m q r : Parse) (t u : Bool) → m ≡ run b text s → t ≡ going m → t ≡ true → run (while p a) text q ≡ run (while p a) text m → u ≡ holds text p q → u ≡ false → r ≡ resumedOf q → r ≡ run (seq b (part (while p a))) text s
-loop-part p a b text s m q r t u k g h i e j l = by-seq text s r b (part (while p a)) m k (by-part text m r (while p a) q t g h (loop-leaves p a text m q u i e j) l)
+-- and where it is a scope behind another rule, which made m
+pub loop-scope : (p : Test) (a b : Rule) (text : List ℕ) (s m q r : Parse) (t u : Bool) → m ≡ run b text s → t ≡ going m → t ≡ true → run (while p a) text q ≡ run (while p a) text m → u ≡ holds text p q → u ≡ false → r ≡ resumedOf q → r ≡ run (seq b (scope (while p a))) text s
+loop-scope p a b text s m q r t u k g h i e j l = by-seq text s r b (scope (while p a)) m k (by-scope text m r (while p a) q t g h (loop-leaves p a text m q u i e j) l)
 
 -- its measure falls
 pub falls : (p : Test) (a : Rule) (text : List ℕ) (q r : Parse) (t : Bool) → moves a ≡ true → t ≡ holds text p q → t ≡ true → r ≡ run a text q → turns text r < turns text q

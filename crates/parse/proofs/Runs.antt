@@ -2,15 +2,16 @@
 -- token or ends the flow, and a `while` of such a rule unrolls. Assumes nothing.
 use Prim.Native.Nat.{ℕ, suc, _-_, _<_, _≤_}
 use mathlib.Core.Path.{_≡_, refl, sym, _∙_}
-use mathlib.Core.Bool.{Bool, true, false, cond}
+use mathlib.Core.Bool.{Bool, true, false, cond, false≢true}
 use mathlib.Core.List.{List}
 use native.Mathlib.Omega.{arith}
 use native.Mathlib.Nat.{le-refl, lt-of-le-of-lt, lt-of-lt-of-le}
 use lib.ListN.{length}
+use Rattle.basics.proofs.Tests.{if-intro, by-test}
 use Rattle.parse.specs.declared.Parse.{Parse}
 use Rattle.parse.specs.State.{tokenAt, turns, going}
-use Rattle.parse.specs.Rule.{Test, Rule, skip, stop, push, note, mark, seq, choose, while, part, thrice, run, holds}
-use Rattle.parse.proofs.Loop.{false-true, if-intro, by-test, Falls, loop-goes, loop-stays}
+use Rattle.parse.specs.Rule.{Test, Rule, skip, stop, push, note, mark, seq, choose, while, scope, thrice, run, holds}
+use Rattle.parse.proofs.Loop.{Falls, loop-goes, loop-stays}
 use Rattle.parse.proofs.Moves.{push-turns, note-turns}
 use Rattle.parse.proofs.Keeps.{run-at}
 
@@ -25,7 +26,7 @@ run-still (mark f) text s g = rw g
 run-still (seq a b) text s g = rw (run-still a text s g) (run-still b text s g)
 run-still (choose p a b) text s g = rw g (run-still b text s g)
 run-still (while p a) text s g = loop-stays text (holds text p) (run a text) s (rw g)
-run-still (part a) text s g = rw g
+run-still (scope a) text s g = rw g
 run-still (thrice c) text s g = rw g
 
 -- the turns left do not grow
@@ -45,19 +46,19 @@ moves (mark f) = false
 moves (seq a b) = cond (moves a) true (moves b)
 moves (choose p a b) = cond (moves a) (moves b) false
 moves (while p a) = false
-moves (part a) = false
+moves (scope a) = false
 moves (thrice c) = false
 
 -- such a rule passes a token or ends the flow
 pub run-moves : (r : Rule) (text : List ℕ) (s : Parse) → moves r ≡ true → going s ≡ true → turns text (run r text s) < turns text s
 unfolding run
-run-moves skip text s m g = absurd (false-true m)
+run-moves skip text s m g = absurd (false≢true m)
 run-moves stop text s m g = rw g (omega arith)
 run-moves (push f) text s m g = if-intro (λ q. turns text q < turns text s) (going s) _ _
-    (λ h. push-turns text (f (tokenAt text (s .at))) s g) (λ h. absurd (false-true (sym h ∙ g)))
+    (λ h. push-turns text (f (tokenAt text (s .at))) s g) (λ h. absurd (false≢true (sym h ∙ g)))
 run-moves note text s m g = if-intro (λ q. turns text q < turns text s) (going s) _ _
-    (λ h. note-turns text s g) (λ h. absurd (false-true (sym h ∙ g)))
-run-moves (mark f) text s m g = absurd (false-true m)
+    (λ h. note-turns text s g) (λ h. absurd (false≢true (sym h ∙ g)))
+run-moves (mark f) text s m g = absurd (false≢true m)
 run-moves (seq a b) text s m g = by-test (moves a)
     (λ ma. lt-of-le-of-lt (run-turns b text (run a text s)) (run-moves a text s ma g))
     (λ na. by-test (going (run a text s))
@@ -66,13 +67,13 @@ run-moves (seq a b) text s m g = by-test (moves a)
 run-moves (choose p a b) text s m g = by-test (moves a)
     (λ ma. if-intro (λ q. turns text q < turns text s) (holds text p s) _ _
     (λ h. run-moves a text s ma g) (λ h. run-moves b text s (rw ma at m) g))
-    (λ na. absurd (false-true (rw na at m)))
-run-moves (while p a) text s m g = absurd (false-true m)
-run-moves (part a) text s m g = absurd (false-true m)
-run-moves (thrice c) text s m g = absurd (false-true m)
+    (λ na. absurd (false≢true (rw na at m)))
+run-moves (while p a) text s m g = absurd (false≢true m)
+run-moves (scope a) text s m g = absurd (false≢true m)
+run-moves (thrice c) text s m g = absurd (false≢true m)
 
 pub holds-going : (text : List ℕ) (p : Test) (s : Parse) → holds text p s ≡ true → going s ≡ true
-holds-going text p s h = by-test (going s) (λ g. g) (λ g. absurd (false-true (rw g at h)))
+holds-going text p s h = by-test (going s) (λ g. g) (λ g. absurd (false≢true (rw g at h)))
 
 rule-falls : (a : Rule) → moves a ≡ true → (text : List ℕ) (p : Test) → Falls text (holds text p) (run a text)
 rule-falls a m text p s h = run-moves a text s m (holds-going text p s h)

@@ -1,12 +1,13 @@
 -- One push and one step, said outright in each of their cases, and an end that is passed over. Assumes nothing.
 use Prim.Native.Nat.{ℕ, _+_, _<_, _≤_}
 use mathlib.Core.Path.{_≡_, refl, sym, _∙_, ap}
-use mathlib.Core.Bool.{Bool, true, false, cond}
+use mathlib.Core.Bool.{Bool, true, false, cond, false≢true}
 use mathlib.Core.List.{List}
 use native.Mathlib.Omega.{arith}
 use lib.Dec.{eqb, ltb}
 use lib.ListN.{length, set}
 use borrow.Author.Tests.{lt-ltb, ltb-false}
+use Rattle.basics.proofs.Tests.{if-intro}
 use Rattle.classes.specs.declared.Mode.{Mode}
 use Rattle.classes.specs.declared.Mode.the-variants.{Crate, Whole}
 use Rattle.classes.specs.declared.Shape.{Shape}
@@ -17,7 +18,6 @@ use Rattle.parse.specs.declared.Flow.{Flow}
 use Rattle.parse.specs.declared.Flow.the-variants.{GoOn, Stop, Full, End}
 use Rattle.parse.specs.State.{tokenAt, placeAfter, filledAt, charOf, isGoing, going, withPlace, withFlow, withDone, withAgain, withCells, putOf, movedOf, onJoiner, stepOf, pushOf, passesEnd, retriedOf}
 use Rattle.parse.specs.Rule.{takeOf}
-use Rattle.parse.proofs.Loop.{false-true, if-intro}
 use Rattle.parse.proofs.Moves.{moved-case, step-stays}
 
 -- a character more
@@ -64,15 +64,15 @@ take-next text c s g l h e =
     let q : Parse = plus t c s in
     if-intro (λ z. z ≡ withPlace (s .at + 1) q) (going s) _ _
     (λ b. ap (stepOf text) (put-plus t c s (omega arith)) ∙ step-next text q l h e)
-    (λ b. absurd (false-true (sym b ∙ g)))
+    (λ b. absurd (false≢true (sym b ∙ g)))
 
 -- a parse that goes on
 
 pub going-flow : (f : Flow) → isGoing f ≡ true → f ≡ GoOn
 going-flow GoOn g = refl
-going-flow Stop g = absurd (false-true g)
-going-flow Full g = absurd (false-true g)
-going-flow End g = absurd (false-true g)
+going-flow Stop g = absurd (false≢true g)
+going-flow Full g = absurd (false≢true g)
+going-flow End g = absurd (false≢true g)
 
 passes-none : (m : Mode) (f : Flow) (a : Bool) → f ≡ GoOn → passesEnd m f a ≡ false
 passes-none Whole f a e = refl

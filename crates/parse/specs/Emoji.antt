@@ -1,4 +1,4 @@
--- A cluster's emoji as a number: "its emoji: none, Default, Text or Color".
+-- A cluster's emoji as a number: none, Default, Text or Color (SCOPE 4.1).
 use Prim.Native.Nat.{ℕ}
 use Rattle.parse.specs.declared.Emoji.{Emoji}
 use Rattle.parse.specs.declared.Emoji.the-variants.{None, Default, Text, Color}

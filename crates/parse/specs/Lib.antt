@@ -4,3 +4,4 @@ pub mod Shared
 pub mod Cover
 pub mod Emoji
 pub mod Space
+pub mod Inner

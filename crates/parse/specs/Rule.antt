@@ -1,8 +1,9 @@
 -- The grammar of a parser as data, and what it does: a rule for each Rust function, and one meaning, `run`, for both modes.
 use Prim.Native.Nat.{ℕ}
-use mathlib.Core.Bool.{Bool, true, false, cond}
-use mathlib.Core.List.{List, [], _∷_}
+use mathlib.Core.Bool.{Bool, true, false, cond, _||_}
+use mathlib.Core.List.{List}
 use lib.Dec.{eqb}
+use Rattle.basics.specs.Sets.{member}
 use Rattle.classes.specs.declared.Shape.{Shape}
 use Rattle.classes.specs.declared.Shape.the-variants.{Other}
 use Rattle.token.specs.Token.{scalarOf, kindOf, breakOf, emojiOf, selectorOf}
@@ -20,7 +21,7 @@ Test = List ℕ → ℕ → Bool
 
 pub data Rule : Type 0 where
   skip : Rule
-  -- the part around is done, or else the cluster: the Rust's `return` and `break`
+  -- the scope around is done, or else the cluster: the Rust's `return` and `break`
   stop : Rule
   -- the current token becomes a character, of a class that it decides, and is stepped off
   push : (ℕ → Shape) → Rule
@@ -32,9 +33,9 @@ pub data Rule : Type 0 where
   choose : Test → Rule → Rule → Rule
   while : Test → Rule → Rule
   -- a stop in it ends it alone
-  part : Rule → Rule
-  -- kinzi, a push and a step three times; that "three pushes, three steps whose failure is ignored" come to the same is `kinzi-as-rust`
-  -- of the crate `myanmar`
+  scope : Rule → Rule
+  -- kinzi, a push and a step three times; that the Rust's three pushes and then three steps come to the same is `kinzi-as-rust` of the
+  -- crate `myanmar`
   thrice : Shape → Rule
 
 -- a test of the current token, where there is one to be taken
@@ -60,12 +61,19 @@ run (choose p a b) text s =
     let rb = run b text s in
     cond (holds text p s) ra rb
 run (while p a) text s = loop text (holds text p) (run a text) s
-run (part a) text s = let r = run a text s in cond (going s) (resumedOf r) s
+run (scope a) text s = let r = run a text s in cond (going s) (resumedOf r) s
 run (thrice c) text s = let r = thriceOf text c s in cond (going s) (retriedOf r) s
 
+-- one rule behind another; it binds more strongly than a choice
 infixr 30 _▸_
 abbrev pub _▸_ : Rule → Rule → Rule
 a ▸ b = seq a b
+
+-- a row of a choice: a rule where the test holds, and the later rows where it does not; the last row has no test, as the arm `_` of a
+-- Rust `match`
+infixr 20 _⇒_∣_
+abbrev pub _⇒_∣_ : Test → Rule → Rule → Rule
+test ⇒ rule ∣ later = choose test rule later
 
 -- tests of the current token
 
@@ -85,11 +93,7 @@ abbrev pub isSelector : Test
 isSelector text i = eqb (selectorOf (tokenAt text i)) 1
 
 unfoldable pub either : Test → Test → Test
-either p q text i = cond (p text i) true (q text i)
-
-abbrev pub member : List ℕ → ℕ → Bool
-member [] k = false
-member (x ∷ xs) k = cond (eqb k x) true (member xs k)
+either p q text i = p text i || q text i
 
 -- the kind is one of a list
 unfoldable pub oneOf : List ℕ → Test
@@ -107,7 +111,7 @@ take c = push (λ t. c)
 
 -- `accept_as`
 abbrev pub acceptAs : ℕ → Shape → Rule
-acceptAs k c = choose (is k) (take c) skip
+acceptAs k c = is k ⇒ take c ∣ skip
 
 -- `accept`
 abbrev pub accept : ℕ → Rule

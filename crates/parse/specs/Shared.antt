@@ -1,8 +1,8 @@
 -- The rules that stand in more than one of the Rust parsers, once: the emoji loop (simple.rs, myanmar.rs, complex.rs) and the arm
 -- for class O (myanmar.rs, complex.rs).
 use Prim.Native.Nat.{ℕ}
-use mathlib.Core.Bool.{cond}
 use lib.Dec.{eqb}
+use Rattle.basics.specs.Choices.{_⇒_▹_}
 use Rattle.classes.specs.declared.Shape.{Shape}
 use Rattle.classes.specs.declared.Shape.the-variants.{Base, Mark, Control, Zwnj, Zwj}
 use Rattle.classes.specs.ClusterBreak.{EX, ZWJ as ZWJ-break}
@@ -11,18 +11,19 @@ use Rattle.classes.specs.Scalar.{CR, LF, ZWNJ, ZWJ, VS15, VS16}
 use Rattle.token.specs.Token.{scalarOf, categoryOf}
 use Rattle.parse.specs.declared.Emoji.the-variants.{Default, Text, Color}
 use Rattle.parse.specs.declared.Space.the-variants.{Newline}
-use Rattle.parse.specs.Rule.{Rule, skip, stop, push, note, mark, choose, while, part, _▸_, take, isBreak, isScalar, isEmoji, setEmoji, setSpace, setSpaceFromChar}
+use Rattle.parse.specs.Rule.{Rule, skip, stop, push, note, mark, while, scope, _▸_, _⇒_∣_, take, isBreak, isScalar, isEmoji, setEmoji, setSpace, setSpaceFromChar}
 
--- `parse_emoji_extension`, its arm EX: "U+FE0E and U+FE0F inside an emoji extension are noted and not pushed"
+-- `parse_emoji_extension`, its arm EX: U+FE0F and U+FE0E "are noted instead" (SCOPE 6.2)
 unfoldable pub emojiMark : Rule
-emojiMark = choose (isScalar ZWNJ) (take Zwnj)
-    (choose (isScalar VS16) (mark (setEmoji Color) ▸ note)
-    (choose (isScalar VS15) (mark (setEmoji Text) ▸ note)
-    (take Mark)))
+emojiMark =
+    isScalar ZWNJ ⇒ take Zwnj
+    ∣ isScalar VS16 ⇒ mark (setEmoji Color) ▸ note
+    ∣ isScalar VS15 ⇒ mark (setEmoji Text) ▸ note
+    ∣ take Mark
 
 -- `parse_emoji_extension`; where it answers false, and so breaks the loop around it, it is a stop
 unfoldable pub emojiExtension : Rule
-emojiExtension = while (isBreak EX) emojiMark ▸ choose (isBreak ZWJ-break) (take Zwj) stop
+emojiExtension = while (isBreak EX) emojiMark ▸ (isBreak ZWJ-break ⇒ take Zwj ∣ stop)
 
 -- a turn of the loop `while self.emoji()`
 unfoldable pub emojiTurn : Rule
@@ -30,19 +31,21 @@ emojiTurn = take Base ▸ emojiExtension
 
 -- the arm `if self.emoji()`
 unfoldable pub emojis : Rule
-emojis = mark (setEmoji Default) ▸ part (while isEmoji emojiTurn)
+emojis = mark (setEmoji Default) ▸ scope (while isEmoji emojiTurn)
 
 -- the class of a character of class O, by its category
 abbrev pub otherClass : ℕ → Shape
-otherClass t = cond (eqb (categoryOf t) Format)
-    (cond (eqb (scalarOf t) ZWNJ) Zwnj (cond (eqb (scalarOf t) ZWJ) Zwj Control))
-    (cond (eqb (categoryOf t) Control-category) Control Base)
+otherClass t =
+    eqb (categoryOf t) Format ⇒ (eqb (scalarOf t) ZWNJ ⇒ Zwnj ▹ eqb (scalarOf t) ZWJ ⇒ Zwj ▹ Control)
+    ▹ eqb (categoryOf t) Control-category ⇒ Control
+    ▹ Base
 
 unfoldable pub newline : Rule
 newline = mark (setSpace Newline) ▸ take Control
 
 -- the arm `O`: "uniform clustering of CRLF across the parsers", by scalar
 unfoldable pub otherArm : Rule
-otherArm = choose (isScalar CR) (newline ▸ choose (isScalar LF) (take Control) skip)
-    (choose (isScalar LF) newline
-    (mark setSpaceFromChar ▸ push otherClass))
+otherArm =
+    isScalar CR ⇒ newline ▸ (isScalar LF ⇒ take Control ∣ skip)
+    ∣ isScalar LF ⇒ newline
+    ∣ mark setSpaceFromChar ▸ push otherClass

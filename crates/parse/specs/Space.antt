@@ -1,4 +1,4 @@
--- A cluster's space as a number, and its scalar: "its space: none, newline, or from a scalar".
+-- A cluster's space as a number, and its scalar: none, newline, or from a scalar (SCOPE 4.1).
 use Prim.Native.Nat.{ℕ}
 use Rattle.parse.specs.declared.Space.{Space}
 use Rattle.parse.specs.declared.Space.the-variants.{None, Newline, From}

@@ -2,12 +2,13 @@
 -- `filledAt`, what a step does at a cluster of 32, and `passesEnd`, what becomes of the end of the text within a kinzi.
 use Prim.Native.Nat.{ℕ, zero, suc, _+_, _-_}
 use mathlib.Core.Bool.{Bool, true, false, cond}
-use mathlib.Core.List.{List, []}
+use mathlib.Core.List.{List}
 use lib.Dec.{eqb, ltb}
 use lib.ListN.{length, set, getD, replicate}
-use denote.Ref.{RefT, now}
 use Rattle.classes.specs.declared.Shape.{Shape}
 use Rattle.classes.specs.declared.Shape.the-variants.{Base, Other}
+use Rattle.classes.specs.declared.Mode.{Mode}
+use Rattle.classes.specs.declared.Mode.the-variants.{Crate, Whole}
 use Rattle.classes.specs.Scalar.{CGJ}
 use Rattle.token.specs.Token.{scalarOf, indexOf}
 use Rattle.parse.specs.declared.Parse.{Parse}
@@ -17,8 +18,6 @@ use Rattle.parse.specs.declared.Cluster.{Cluster}
 use Rattle.parse.specs.declared.Place.{Place}
 use Rattle.parse.specs.declared.Emoji.the-variants.{None as NoEmoji}
 use Rattle.parse.specs.declared.Space.the-variants.{None as NoSpace}
-use Rattle.classes.specs.declared.Mode.{Mode}
-use Rattle.classes.specs.declared.Mode.the-variants.{Crate, Whole}
 use Rattle.parse.specs.declared.Flow.{Flow}
 use Rattle.parse.specs.declared.Flow.the-variants.{GoOn, Stop, Full, End}
 
@@ -30,7 +29,7 @@ tokenAt text i = getD text i 0
 abbrev pub placeAfter : ℕ → ℕ → ℕ
 placeAfter n i = cond (ltb i n) (i + 1) i
 
--- "The start place and the empty cluster are named values of their types."
+-- `Place::START` and `Cluster::EMPTY` (SCOPE 3.2, 4.1)
 abbrev pub startPlace : Place
 startPlace = record { at = 0 }
 
@@ -97,13 +96,13 @@ putOf t c s = cond (ltb (s .len) 32) (withCells (s .len + 1) (set (s .chars) (s 
 abbrev pub notedMore : Pushed → Pushed
 notedMore c = record { scalar = c .scalar; index = c .index; noted = cond (ltb (c .noted) 65535) (c .noted + 1) (c .noted); class = c .class }
 
--- a token noted after the last character; "a note always follows a push", and where it would not it is one
+-- a token noted after the last character; "something has always been pushed before" (SCOPE 4.1), and where nothing was it is pushed
 abbrev pub notedOf : ℕ → Parse → Parse
 notedOf t s = cond (ltb 0 (s .len))
     (cond (ltb (s .len) 33) (withCells (s .len) (set (s .chars) (s .len - 1) (notedMore (getD (s .chars) (s .len - 1) nothing))) s) s)
     (putOf t Other s)
 
--- "A step onto a cluster of 32 does not move: that token stays current." In whole mode "a push to 32 passes its token".
+-- "In crate mode a step at 32 characters leaves the current token where it is" (SCOPE 6.7); in whole mode its token is passed (6.9)
 abbrev pub filledAt : Mode → ℕ → ℕ → ℕ
 filledAt Crate n i = i
 filledAt Whole n i = placeAfter n i
@@ -134,11 +133,12 @@ loop text test body s = atMost test body (turns text s) s
 abbrev pub hop : List ℕ → Parse → Parse
 hop text s = movedOf (length text) (putOf (tokenAt text (s .at)) Other s)
 
--- `advance`: onto the next token; "a step onto [U+034F] pushes it as Other and steps again, for as many as follow while there is room"
+-- `advance`: onto the next token; where that is U+034F, "it is taken as Other …, and so are all that follow it directly, as long as
+-- there is room" (SCOPE 6.2)
 unfoldable pub stepOf : List ℕ → Parse → Parse
 stepOf text s = loop text (onJoiner text) (hop text) (movedOf (length text) s)
 
--- "Push, then step."
+-- to take a token is "to push it as a character and then to step to the next" (SCOPE 6.1)
 unfoldable pub pushOf : List ℕ → Shape → Parse → Parse
 pushOf text c s = stepOf text (putOf (tokenAt text (s .at)) c s)
 
@@ -156,7 +156,7 @@ goOn End = End
 abbrev pub resumedOf : Parse → Parse
 resumedOf s = withFlow (goOn (s .flow)) s
 
--- repeat (b): the end of the text is passed over in crate mode, once a call; in whole mode it "ends the call at once"
+-- repeat (b): the end of the text is passed over in crate mode, once a call; in whole mode it ends the call (SCOPE 6.9)
 abbrev pub passesEnd : Mode → Flow → Bool → Bool
 passesEnd Whole f again = false
 passesEnd Crate GoOn again = false
@@ -167,20 +167,3 @@ passesEnd Crate End again = cond again false true
 -- the last token is current still, and is read again
 abbrev pub retriedOf : Parse → Parse
 retriedOf s = cond (passesEnd (s .mode) (s .flow) (s .again)) (withFlow GoOn (withAgain s)) s
-
--- What only private contracts need
-
--- a text behind a thin reference, that to an array which holds it alone
-abbrev pub held : List (RefT (List ℕ)) → List ℕ
-held texts = now (getD texts 0 (record { ptr = (0, 0); name = 0; now = [] }))
-
--- the last U+034F of those behind token i of n, as many as there is room for; token i where there is none
-unfoldable pub stepPast : ℕ → ℕ → List ℕ → ℕ → ℕ
-stepPast zero n text i = i
-stepPast (suc room) n text i =
-    let later = stepPast room n text (placeAfter n i) in
-    cond (eqb (scalarOf (tokenAt text (placeAfter n i))) CGJ) later i
-
--- the last token that is pushed where a parse's current one is
-abbrev pub lastPushed : List ℕ → Parse → ℕ
-lastPushed text s = cond (going s) (cond (s .joins) (cond (ltb (s .len) 32) (stepPast (32 - (s .len + 1)) (length text) text (s .at)) (s .at)) (s .at)) (s .at)

@@ -78,7 +78,7 @@ impl Parse {
         self
     }
 
-    // The part around is done, or else the cluster.
+    // The scope around is done, or else the cluster.
     pub fn stop(self, text: &[u64]) -> Parse
         ensures { λ r. ⌜ r ≡ run Rattle.parse.specs.Rule.stop (now (text .entry)) self ⌝ }
     {

@@ -47,7 +47,7 @@ impl Parse {
         s
     }
 
-    // `if self.emoji()`, all that it does: the loop is a part, so that a stop ends it alone.
+    // `if self.emoji()`, all that it does: the loop is a scope, so that a stop ends it alone.
     pub fn parse_emoji(self, text: &[u64]) -> Parse
         ensures { λ r. ⌜ r ≡ run emojis (now (text .entry)) self ⌝ }
     {

@@ -1,14 +1,16 @@
 // The cluster under construction: what a call of a parser changes as it goes, and what it hands back. The three grammars are
 // built of its methods, which carry the names that they have in the Rust.
 pub mod actions;
+pub mod asks;
+pub mod class_o;
 pub mod emoji_loop;
-pub mod other;
 pub mod state;
-pub mod tests;
 
 use classes::Mode;
 use classes::Shape;
 ghost use mathlib.Core.Path.{_≡_};
+ghost use Rattle.parse.specs.Emoji.{emojiCode};
+ghost use Rattle.parse.specs.Space.{spaceCode, spaceScalar};
 ghost use Rattle.parse.specs.State.{emptyCluster, startPlace};
 
 // The answer of each part of a parser, for the Rust's `Option<()>`: it goes on, or stopped of its own, or the cluster has 32, or
@@ -27,10 +29,47 @@ pub enum Emoji {
     Color,
 }
 
+impl Emoji {
+    // The number that a stepping call tells for the emoji.
+    pub fn code(self) -> u8
+        ensures { λ r. ⌜ r ≡ emojiCode self ⌝ }
+    {
+        match self {
+            Emoji::None => 0,
+            Emoji::Default => 1,
+            Emoji::Text => 2,
+            Emoji::Color => 3,
+        }
+    }
+}
+
 pub enum Space {
     None,
     Newline,
     From(u32),
+}
+
+impl Space {
+    // The numbers that a stepping call tells for the space: its kind, and the scalar that it is from.
+    pub fn code(self) -> u8
+        ensures { λ r. ⌜ r ≡ spaceCode self ⌝ }
+    {
+        match self {
+            Space::None => 0,
+            Space::Newline => 1,
+            Space::From(_) => 2,
+        }
+    }
+
+    pub fn scalar(self) -> u32
+        ensures { λ r. ⌜ r ≡ spaceScalar self ⌝ }
+    {
+        match self {
+            Space::None => 0,
+            Space::Newline => 0,
+            Space::From(scalar) => scalar,
+        }
+    }
 }
 
 pub struct Info {

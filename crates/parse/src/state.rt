@@ -12,7 +12,8 @@ ghost use mathlib.Core.Path.{_≡_};
 ghost use mathlib.Core.Bool.{cond};
 ghost use lib.Dec.{ltb};
 ghost use Prim.Native.Nat.{_+_, _-_, _<_};
-ghost use Rattle.parse.specs.State.{tokenAt, placeAfter, clusterOf, placeOf, isGoing, withFlow, withInfo, filledAt, putOf, notedOf, movedOf, onJoiner, stepOf, pushOf, resumedOf, retriedOf, goOn, passesEnd, held, stepPast, lastPushed};
+ghost use Rattle.parse.specs.State.{tokenAt, placeAfter, clusterOf, placeOf, isGoing, withFlow, withInfo, filledAt, putOf, notedOf, movedOf, onJoiner, stepOf, pushOf, resumedOf, retriedOf, goOn, passesEnd};
+ghost use Rattle.parse.specs.Inner.{held, stepPast, lastPushed};
 
 pub fn token_at(text: &[u64], i: usize) -> u64
     ensures { λ r. ⌜ r ≡ tokenAt (now (text .entry)) i ⌝ }
@@ -39,7 +40,7 @@ fn filled_at(mode: Mode, n: usize, i: usize) -> usize
 fn one_more(m: u16) -> u16
     ensures { λ r. ⌜ r ≡ cond (ltb m 65535) (m + 1) m ⌝ }
 {
-    if m < 65535 { m + 1 } else { m }
+    if m < u16::MAX { m + 1 } else { m }
 }
 
 fn go_on(flow: Flow) -> Flow
@@ -75,8 +76,8 @@ fn token_of<'s, 'a>(text: &'s [&'a [u64]; 1], i: usize) -> u64
     token_at(text[0], i)
 }
 
-// "A step onto [U+034F] pushes it as Other and steps again, for as many as follow while there is room": the last token that is pushed so,
-// where a cluster of len characters steps off token i of n. Step and push call each other, and the room left falls. What goes round
+// A U+034F is taken as Other, and so are all that follow it directly, as long as there is room (SCOPE 6.2): the last token that is pushed
+// so, where a cluster of len characters steps off token i of n. Step and push call each other, and the room left falls. What goes round
 // is numbers and a thin reference alone, so that the compiler makes a loop of the two.
 fn step_past<'s, 'a>(text: &'s [&'a [u64]; 1], n: usize, i: usize, len: usize) -> usize
     ensures { λ r. ⌜ r ≡ stepPast (32 - len) n (held (now (text .entry))) i ⌝ }
@@ -268,7 +269,7 @@ impl Parse {
         at
     }
 
-    // "Push, then step": what the step pushes is pushed here.
+    // Push, then step: what the step pushes is pushed here.
     pub(crate) fn push(mut self, text: &[u64], mut class: Shape) -> Parse
         ensures { λ r. ⌜ r ≡ pushOf (now (text .entry)) class self ⌝ }
     {
@@ -297,7 +298,7 @@ impl Parse {
         self
     }
 
-    // After a part: a stop in it ended it alone.
+    // After a scope: a stop in it ended it alone.
     pub fn resumed(self) -> Parse
         ensures { λ r. ⌜ r ≡ resumedOf self ⌝ }
     {

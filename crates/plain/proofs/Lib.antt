@@ -1,4 +1,10 @@
-pub mod ClustersSides
-pub mod WordsChain
-pub mod WordsRules
-pub mod WordsWalk
+pub mod ClustersNeighbours
+pub mod ClustersAfter
+pub mod ClustersCall
+pub mod ClustersPlain
+pub mod ClustersStep
+pub mod ClustersNumbers
+pub mod ClustersModes
+pub mod WordsStep
+pub mod WordsPlain
+pub mod Differ

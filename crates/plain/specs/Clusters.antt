@@ -1,90 +1,69 @@
--- UAX #29 of Unicode 15.0, section 3.1.1: the rules GB1 to GB999, each under the annex's own line and in its order, so that a
--- reviewer reads them against the annex. Written from that document, and not from a parser.
+-- Plain cluster texts, by the simple parser: "every cluster break is XX, CR, LF, CN, EX, SM or ZWJ; only XX has the emoji mark; none of
+-- EX, SM and ZWJ stands right behind a CR, LF or CN; and no call from the start on pushes 32 characters" (SCOPE 8.1). And where its
+-- clusters start.
 use Prim.Native.Nat.{ℕ, zero, suc, _+_}
-use mathlib.Core.Bool.{Bool, false, cond}
-use mathlib.Core.List.{List, [], _∷_}
-use lib.Dec.{ltb}
+use mathlib.Core.Bool.{Bool, true, cond, not, _&&_, _||_}
+use mathlib.Core.List.{List, [], _∷_, _++_, map}
+use lib.Dec.{eqb, ltb}
 use lib.ListN.{length}
-use Rattle.classes.specs.ClusterBreak.{CN, CR, LF, L, «V», T, LV, LVT, RI, EX, SM, ZWJ, PP}
-pub use Rattle.plain.specs.Rules.{Item, Rule}
-unfoldable pub use Rattle.plain.specs.Rules.{Test, is, isNot, among, pictographic, Side, anything, edge, any, one, next, many, pairs, _÷_, _⨯_, applies, decide, itemAt, beforeOf, itemsFrom, afterOf}
+use Rattle.basics.specs.Sets.{member, every}
+use Rattle.classes.specs.ClusterBreak.{XX, CN, CR, LF, EX, SM, ZWJ}
+use Rattle.classes.specs.declared.Mode.{Mode}
+use Rattle.records.specs.Text.{Text, cell}
+use Rattle.records.specs.declared.Parser.the-variants.{Simple}
+use Rattle.stream.specs.Stream.{streamOf}
+use Rattle.parse.specs.declared.Parse.{Parse}
+use Rattle.parse.specs.declared.Pushed.{Pushed}
+use Rattle.parse.specs.State.{placeOf}
+use Rattle.parse.specs.Cover.{pushed}
+use Rattle.segment.specs.Runs.{callsOf}
+use Rattle.uax29.specs.Clusters.{controls, boundaryAt}
 
-abbrev pub controls : List ℕ
-controls = CN ∷ CR ∷ LF ∷ []
+abbrev pub plainKinds : List ℕ
+plainKinds = XX ∷ EX ∷ SM ∷ ZWJ ∷ CR ∷ LF ∷ CN ∷ []
 
--- GB1: sot ÷ Any
-unfoldable pub GB1 : Rule
-GB1 = edge ÷ any
+abbrev pub extensions : List ℕ
+extensions = EX ∷ SM ∷ ZWJ ∷ []
 
--- GB2: Any ÷ eot
-unfoldable pub GB2 : Rule
-GB2 = any ÷ edge
+-- "only XX has the emoji mark"
+unfoldable pub plainMark : ℕ → ℕ → Bool
+plainMark kind mark = eqb mark 0 || eqb kind XX
 
--- GB3: CR × LF
-unfoldable pub GB3 : Rule
-GB3 = one (is CR) ⨯ one (is LF)
+-- "none of EX, SM and ZWJ stands right behind a CR, LF or CN"
+unfoldable pub plainPair : ℕ → ℕ → Bool
+plainPair kind next = not (member controls kind && member extensions next)
 
--- GB4: (Control | CR | LF) ÷
-unfoldable pub GB4 : Rule
-GB4 = one (among controls) ÷ anything
+-- the record at an index; the cell after the last one is read as 0, which is XX
+unfoldable pub plainAt : List ℕ → List ℕ → ℕ → Bool
+plainAt breaks marks i = member plainKinds (cell breaks i) && (plainMark (cell breaks i) (cell marks i) && plainPair (cell breaks i) (cell breaks (i + 1)))
 
--- GB5: ÷ (Control | CR | LF)
-unfoldable pub GB5 : Rule
-GB5 = anything ÷ one (among controls)
+-- "no call from the start on pushes 32 characters"
+unfoldable pub allShort : List Parse → Bool
+allShort [] = true
+allShort (p ∷ ps) = ltb (p .len) 32 && allShort ps
 
--- GB6: L × (L | V | LV | LVT)
-unfoldable pub GB6 : Rule
-GB6 = one (is L) ⨯ one (among (L ∷ «V» ∷ LV ∷ LVT ∷ []))
+-- the simple parser's calls on a text
+abbrev pub simpleCalls : Mode → Text → List Parse
+simpleCalls mode t = callsOf Simple mode (streamOf mode Simple t)
 
--- GB7: (LV | V) × (V | T)
-unfoldable pub GB7 : Rule
-GB7 = one (among (LV ∷ «V» ∷ [])) ⨯ one (among («V» ∷ T ∷ []))
+unfoldable pub isPlain : Mode → Text → Bool
+isPlain mode t = every (plainAt (t .records .breaks) (t .records .semojis)) (length (t .records .breaks)) && allShort (simpleCalls mode t)
 
--- GB8: (LVT | T) × T
-unfoldable pub GB8 : Rule
-GB8 = one (among (LVT ∷ T ∷ [])) ⨯ one (is T)
+-- where calls start, the first of them at a place: each where the one before ended
+unfoldable pub startsFrom : List ℕ → ℕ → List Parse → List ℕ
+startsFrom stream at [] = []
+startsFrom stream at (p ∷ ps) = at ∷ startsFrom stream (placeOf stream p) ps
 
--- GB9: × (Extend | ZWJ)
-unfoldable pub GB9 : Rule
-GB9 = anything ⨯ one (among (EX ∷ ZWJ ∷ []))
+-- where the simple parser's clusters start
+abbrev pub clusterStarts : Mode → Text → List ℕ
+clusterStarts mode t = startsFrom (streamOf mode Simple t) 0 (simpleCalls mode t)
 
--- GB9a: × SpacingMark
-unfoldable pub GB9a : Rule
-GB9a = anything ⨯ one (is SM)
+-- the number, from 0, of the cluster that the record at an index is in: how many boundaries stand after the text's start and up to it
+unfoldable pub numberAt : List ℕ → List ℕ → ℕ → ℕ
+numberAt breaks marks zero = 0
+numberAt breaks marks (suc i) = let before = numberAt breaks marks i in cond (boundaryAt breaks marks (suc i)) (before + 1) before
 
--- GB9b: Prepend ×
-unfoldable pub GB9b : Rule
-GB9b = one (is PP) ⨯ anything
-
--- GB11: \p{Extended_Pictographic} Extend* ZWJ × \p{Extended_Pictographic}
-unfoldable pub GB11 : Rule
-GB11 = next (is ZWJ) (many (is EX) (one pictographic)) ⨯ one pictographic
-
--- GB12: sot (RI RI)* RI × RI
-unfoldable pub GB12 : Rule
-GB12 = next (is RI) (pairs (is RI) edge) ⨯ one (is RI)
-
--- GB13: [^RI] (RI RI)* RI × RI
-unfoldable pub GB13 : Rule
-GB13 = next (is RI) (pairs (is RI) (one (isNot RI))) ⨯ one (is RI)
-
--- GB999: Any ÷ Any
-unfoldable pub GB999 : Rule
-GB999 = any ÷ any
-
--- another edition of Unicode is another list
-abbrev pub rules : List Rule
-rules = GB1 ∷ GB2 ∷ GB3 ∷ GB4 ∷ GB5 ∷ GB6 ∷ GB7 ∷ GB8 ∷ GB9 ∷ GB9a ∷ GB9b ∷ GB11 ∷ GB12 ∷ GB13 ∷ GB999 ∷ []
-
--- whether a boundary stands at a place; past the end there is no place
-unfoldable pub boundaryAt : List ℕ → List ℕ → ℕ → Bool
-boundaryAt breaks marks at = cond (ltb (length breaks) at) false (decide rules (beforeOf breaks marks at) (afterOf breaks marks at))
-
--- of n places from one on, those at which b says so
-unfoldable pub placesFrom : (ℕ → Bool) → ℕ → ℕ → List ℕ
-placesFrom b at zero = []
-placesFrom b at (suc n) = let later = placesFrom b (at + 1) n in cond (b at) (at ∷ later) later
-
--- the places of all boundaries, but that "the boundary at the text's end is not written"
-abbrev pub boundaries : List ℕ → List ℕ → List ℕ
-boundaries breaks marks = placesFrom (boundaryAt breaks marks) 0 (length breaks)
+-- the same for each pushed character of some calls
+unfoldable pub numbersOf : List ℕ → List ℕ → List Parse → List ℕ
+numbersOf breaks marks [] = []
+numbersOf breaks marks (p ∷ ps) = map (λ (c : Pushed). numberAt breaks marks (c .index)) (pushed p) ++ numbersOf breaks marks ps

@@ -1,5 +1,3 @@
-pub mod Rules
 pub mod Clusters
-pub mod ClustersBack
 pub mod Words
-pub mod WordsSeen
+pub mod Differences

@@ -1,6 +1,5 @@
 pub mod Called
 pub mod Held
-pub mod Left
 pub mod Locals
 pub mod Stands
 pub mod Unique

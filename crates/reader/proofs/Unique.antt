@@ -1,4 +1,5 @@
--- "Uniqueness is shown": the contracts of the reader's four functions determine their answers, and the reader afterwards. Assumes nothing.
+-- That no two results fulfil them is shown (SCOPE 10): the contracts of the reader's four functions determine their answers, and the
+-- reader afterwards. Assumes nothing.
 use mathlib.Core.Path.{_≡_}
 use Rattle.records.specs.Text.{Text}
 use Rattle.records.proofs.Unique.{unique}

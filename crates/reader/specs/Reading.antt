@@ -1,4 +1,4 @@
--- What a reader over the lent columns is and answers: "one reader over the lent columns that keeps its place".
+-- What a reader is and answers: it "borrows the columns and keeps its place" (SCOPE 4.4).
 use Prim.Native.Nat.{ℕ}
 use mathlib.Core.List.{List}
 use denote.Ref.{RefT, now}

@@ -1,4 +1,4 @@
--- What the check says is what document 01's table says, and so is what every call says that begins with it and then looks for lines of
+-- What the check says is what the table of SCOPE 5.1 says, and so is what every call says that begins with it and then looks for lines of
 -- its own; the same of the word run's own check. Assumes nothing.
 use Prim.Native.Nat.{ℕ, zero, suc, _+_, _<_}
 use mathlib.Core.Path.{_≡_, refl, sym, _∙_, ap, subst}
@@ -7,6 +7,7 @@ use mathlib.Core.List.{List, [], _∷_}
 use mathlib.Core.Logic.{_⊎_, inl, inr, ⊎-elim}
 use native.Mathlib.Omega.{arith}
 use lib.ListN.{length}
+use Rattle.basics.proofs.Tests.{both, either}
 use Rattle.records.specs.Text.{Text, cell, rowOf, partOf, recordLengths, partLengths}
 use Rattle.records.specs.declared.Row.{Row}
 use Rattle.records.specs.declared.PartRow.{PartRow}
@@ -16,19 +17,19 @@ use Rattle.records.specs.declared.Parser.{Parser}
 use Rattle.records.specs.declared.Parser.the-variants.{Simple, Myanmar, Complex, Khmer}
 use Rattle.records.specs.declared.Verdict.{Verdict}
 use Rattle.records.specs.declared.Verdict.the-variants.{Accepted, Refused}
-use Rattle.records.specs.Refusals.{isComplex, isKhmer, refuse, _⊳_, over, tooLong, uneven, badScalar, outside, partCodes, recordClasses, recordMarks, badRun, barred, judgePart, judgeRecord, judgeSign, judgeSignAt, judgeParts, judgeRecords, judgeSigns, judgeLengths, verdict, judgeWord, wordVerdict}
+use Rattle.records.specs.Refusals.{isComplex, isKhmer, refusal, refuse, _⊳_, over, tooLong, uneven, badScalar, outside, partCodes, recordClasses, recordMarks, badRun, barred, judgePart, judgeRecord, judgeSign, judgeSignAt, judgeParts, judgeRecords, judgeSigns, judgeLengths, verdict, judgeWord, wordVerdict}
 use Rattle.records.specs.Offences.{Line, breaks, Offends, Judges, ByTable, Asks, partLines, recordLines, lengthLines, badSignAt, someFrom, signLine, tableOf, wordLines, wordTableOf}
-use Rattle.records.proofs.Tables.{both, either, fits, inOrder, broken-fits, firstLine, firstOf, Ordered, by-table}
+use Rattle.records.proofs.Tables.{fits, inOrder, broken-fits, firstLine, firstOf, Ordered, by-table}
 
 -- # Verdicts one after the other
 
 pub alone : (v : Verdict) → v ⊳ Accepted ≡ v
 alone Accepted = refl
-alone (Refused number side index) = refl
+alone (Refused r) = refl
 
 then-assoc : (a b c : Verdict) → (a ⊳ b) ⊳ c ≡ a ⊳ b ⊳ c
 then-assoc Accepted b c = refl
-then-assoc (Refused number side index) b c = refl
+then-assoc (Refused r) b c = refl
 
 over-same : (f g : ℕ → Verdict) → ((i : ℕ) → f i ≡ g i) → (n i : ℕ) → over f i n ≡ over g i n
 unfolding over
@@ -87,7 +88,7 @@ table-first parser t more =
     )
     (four-then (judgeLengths (recordLengths (t .records)) (partLengths (t .parts))) (judgeParts parser (t .parts)) (judgeRecords parser (t .records) (length (t .parts .pscalars))) (judgeSigns parser t) (firstLine more Neither 0))
 
--- "complex only", "complex with Khmer": of the check, and of every call that begins with it
+-- 6 is of complex and 7 of Khmer alone: of the check, and of every call that begins with it
 is-complex : (parser : Parser) → isComplex parser ≡ true → (parser ≡ Complex) ⊎ (parser ≡ Khmer)
 is-complex Simple e = absurd (false≢true e)
 is-complex Myanmar e = absurd (false≢true e)
@@ -110,12 +111,12 @@ module _ (numbers : List ℕ) (parser : Parser) (t : Text) (more : List Line) (o
   added number h b =
       omega (arith, broken-fits numbers Neither 8 10 more number (both (fits numbers Neither 7 10 7) (inOrder numbers Neither 8 10 more) (ordered .after) .1) b .from)
 
-  offence-six : (side : Side) (index : ℕ) → Offends (tableOf parser t more) 6 side index → isComplex parser ≡ true
+  offence-six : (side : Side) (index : ℕ) → Offends (tableOf parser t more) (refusal 6 side index) → isComplex parser ≡ true
   offence-six Neither index (i, b) = absurd (added 6 (omega arith) b)
   offence-six Part index (i, b) = barred-complex parser _ _ b
   offence-six Record index (i, b) = barred-complex parser _ _ b
 
-  offence-seven : (side : Side) (index : ℕ) → Offends (tableOf parser t more) 7 side index → isKhmer parser ≡ true
+  offence-seven : (side : Side) (index : ℕ) → Offends (tableOf parser t more) (refusal 7 side index) → isKhmer parser ≡ true
   offence-seven Neither index (i, b) =
       ⊎-elim (λ h. both (isKhmer parser) (someFrom (badSignAt t) 0 (length (t .records .scalars))) h .0) (λ h. absurd (added 7 (omega arith) h))
       (either ((signLine parser t) .broken) (breaks more 7) b)
@@ -124,11 +125,11 @@ module _ (numbers : List ℕ) (parser : Parser) (t : Text) (more : List Line) (o
 
   judges-asks : (v : Verdict) → Judges (Offends (tableOf parser t more)) v → Asks parser v
   judges-asks Accepted j = record { six = λ e. absurd (omega arith); seven = λ e. absurd (omega arith) }
-  judges-asks (Refused number side index) j =
-      let offends : ℕ → Type 0 = λ n. Offends (tableOf parser t more) n side index in
+  judges-asks (Refused r) j =
+      let offends : ℕ → Type 0 = λ n. Offends (tableOf parser t more) (refusal n (r .side) (r .index)) in
       record {
-        six = λ e. is-complex parser (offence-six side index (subst offends e (j .0)));
-        seven = λ e. is-khmer parser (offence-seven side index (subst offends e (j .0)));
+        six = λ e. is-complex parser (offence-six (r .side) (r .index) (subst offends e (j .0)));
+        seven = λ e. is-khmer parser (offence-seven (r .side) (r .index) (subst offends e (j .0)));
       }
 
 -- a call that begins with the check and then looks for lines of its own

@@ -2,8 +2,8 @@
 -- but 7.
 -- Assumes nothing.
 use Prim.Native.Nat.{ℕ, _+_, _<_, _≤_}
-use mathlib.Core.Path.{_≡_, refl, sym, subst, ap, _∙_}
-use mathlib.Core.Bool.{Bool, true, false, _&&_}
+use mathlib.Core.Path.{_≡_, refl, sym, subst}
+use mathlib.Core.Bool.{Bool, true, false}
 use mathlib.Core.List.{List}
 use mathlib.Core.Logic.{⊎-elim}
 use native.Mathlib.Nat.{eq-or-lt-of-le}
@@ -14,13 +14,11 @@ use lib.Bits.{bitOr, or-add-and, and-le-l, and-le-r}
 use lib.ListN.{length, getD, List·getD-eq-default}
 use denote.Ref.{RefT}
 use Rattle.classes.specs.Scalar.{CGJ}
-use Rattle.records.specs.Text.{Text, cell, column, rowOf, partOf, textIn}
+use Rattle.records.specs.Text.{Text, cell, column, textIn}
 use Rattle.records.specs.declared.Parser.{Parser}
 use Rattle.records.specs.declared.Parser.the-variants.{Simple, Myanmar, Complex, Khmer}
 use Rattle.records.specs.declared.Verdict.{Verdict}
-use Rattle.records.specs.declared.Verdict.the-variants.{Accepted}
-use Rattle.records.specs.Refusals.{badScalar, barred, isComplex, member, barredClasses, judgeParts, judgeRecords, judgeSigns}
-use Rattle.records.specs.Sound.{SoundPart, SoundRow}
+use Rattle.records.specs.Refusals.{badScalar, barred, judgeSigns}
 use Rattle.records.specs.Sweep.{AtMost, CleanScalar, CleanScalars, EndsBy, limits, Below, Passes, eachVerdict}
 use Rattle.records.proofs.Accepted.{parts-pass, rows-pass}
 

@@ -9,22 +9,15 @@ use native.Mathlib.Nat.{eq-or-lt-of-le}
 use native.Mathlib.Omega.{arith}
 use lib.Dec.{eqb, leb, ltb}
 use borrow.Author.Tests.{eqb-true, eq-eqb, leb-true, ltb-true, ltb-false, lt-ltb, le-ltb}
+use Rattle.basics.proofs.Tests.{both, either}
+use Rattle.basics.specs.Sets.{member}
 use Rattle.records.specs.declared.Side.{Side}
 use Rattle.records.specs.declared.Side.the-variants.{Record, Part, Neither}
+use Rattle.records.specs.declared.Refusal.{Refusal}
 use Rattle.records.specs.declared.Verdict.{Verdict}
 use Rattle.records.specs.declared.Verdict.the-variants.{Accepted, Refused}
-use Rattle.records.specs.Refusals.{refuse, _⊳_, over, member}
-use Rattle.records.specs.Offences.{Line, breaks, Table, Offends, stage, Earlier, Judges, sideNumbers, Carries, ByTable}
-
--- # Tests
-
-pub both : (a b : Bool) → (a && b) ≡ true → (a ≡ true) × (b ≡ true)
-both true b e = (refl, e)
-both false b e = absurd (false≢true e)
-
-pub either : (a b : Bool) → (a || b) ≡ true → (a ≡ true) ⊎ (b ≡ true)
-either true b e = inl refl
-either false b e = inr e
+use Rattle.records.specs.Refusals.{refusal, refuse, _⊳_, over}
+use Rattle.records.specs.Offences.{Line, breaks, Table, Offends, stageAt, stage, Earlier, Judges, sideNumbers, Carries, ByTable}
 
 -- # Lines in order
 
@@ -73,7 +66,7 @@ breaks-append (l ∷ ls) ms number =
 
 -- # The order of offences
 
-stage-rises : (side : Side) (number number′ : ℕ) → number ≤ number′ → stage number side ≤ stage number′ side
+stage-rises : (side : Side) (number number′ : ℕ) → number ≤ number′ → stageAt side number ≤ stageAt side number′
 stage-rises Part number number′ h = omega arith
 stage-rises Record number number′ h = omega arith
 stage-rises Neither number number′ h = go (ltb number 3) (ltb number′ 3) refl refl
@@ -84,43 +77,41 @@ stage-rises Neither number number′ h = go (ltb number 3) (ltb number′ 3) ref
     go false false e f = omega arith
 
 -- at one side and index only a lower number comes earlier, and it does
-not-earlier : (side : Side) (index number number′ : ℕ) → number ≤ number′ → Earlier number′ side index number side index → ⊥
-not-earlier side index number number′ h (inl l) = omega (arith, stage-rises side number number′ h)
-not-earlier side index number number′ h (inr (e, inl l)) = omega arith
-not-earlier side index number number′ h (inr (e, inr (q, l))) = omega arith
+not-earlier : (r : Refusal) (number : ℕ) → r .number ≤ number → Earlier (refusal number (r .side) (r .index)) r → ⊥
+not-earlier r number h (inl l) = omega (arith, stage-rises (r .side) (r .number) number h)
+not-earlier r number h (inr (e, inl l)) = omega arith
+not-earlier r number h (inr (e, inr (q, l))) = omega arith
 
-lower-earlier : (side : Side) (index number number′ : ℕ) → number′ < number → Earlier number′ side index number side index
-lower-earlier side index number number′ h =
-    let l : number′ ≤ number = omega arith in
-    ⊎-elim (λ e. inr (e, inr (refl, h))) (λ r. inl r) (eq-or-lt-of-le (stage-rises side number′ number l))
+lower-earlier : (r : Refusal) (number : ℕ) → number < r .number → Earlier (refusal number (r .side) (r .index)) r
+lower-earlier r number h =
+    let l : number ≤ r .number = omega arith in
+    ⊎-elim (λ e. inr (e, inr (refl, h))) (λ k. inl k) (eq-or-lt-of-le (stage-rises (r .side) number (r .number) l))
 
 -- # Verdicts one after the other
 
 abbrev Offences : Type 1
-Offences = ℕ → Side → ℕ → Type 0
+Offences = Refusal → Type 0
 
 abbrev Either : Offences → Offences → Offences
-Either A B number side index = A number side index ⊎ B number side index
+Either A B r = A r ⊎ B r
 
 module _ (A B : Offences) where
-  same-judges : (v : Verdict) → ((number : ℕ) (side : Side) (index : ℕ) → A number side index → B number side index) → ((number : ℕ) (side : Side) (index : ℕ) → B number side index → A number side index) → Judges A v → Judges B v
-  same-judges Accepted f g j = λ n s i o. j n s i (g n s i o)
-  same-judges (Refused number side index) f g j = (f number side index (j .0), λ n s i e o. j .1 n s i e (g n s i o))
+  same-judges : (v : Verdict) → ((r : Refusal) → A r → B r) → ((r : Refusal) → B r → A r) → Judges A v → Judges B v
+  same-judges Accepted f g j = λ r o. j r (g r o)
+  same-judges (Refused r) f g j = (f r (j .0), λ q e o. j .1 q e (g q o))
 
   -- no offence of the later comes earlier
   abbrev Apart : Type 0
-  Apart = (number : ℕ) (side : Side) (index number′ : ℕ) (side′ : Side) (index′ : ℕ) → A number side index → B number′ side′ index′ → Earlier number′ side′ index′ number side index → ⊥
+  Apart = (r q : Refusal) → A r → B q → Earlier q r → ⊥
 
   then-judges : (a b : Verdict) → Apart → Judges A a → Judges B b → Judges (Either A B) (a ⊳ b)
-  then-judges Accepted Accepted apart p q = λ n s i o. ⊎-elim (λ x. p n s i x) (λ y. q n s i y) o
-  then-judges Accepted (Refused number side index) apart p q =
-      (inr (q .0), λ n s i e o. ⊎-elim (λ x. p n s i x) (λ y. q .1 n s i e y) o)
-  then-judges (Refused number side index) b apart p q =
-      (inl (p .0), λ n s i e o. ⊎-elim (λ x. p .1 n s i e x) (λ y. apart number side index n s i (p .0) y e) o)
+  then-judges Accepted Accepted apart p q = λ r o. ⊎-elim (λ x. p r x) (λ y. q r y) o
+  then-judges Accepted (Refused r) apart p q = (inr (q .0), λ s e o. ⊎-elim (λ x. p s x) (λ y. q .1 s e y) o)
+  then-judges (Refused r) b apart p q = (inl (p .0), λ s e o. ⊎-elim (λ x. p .1 s e x) (λ y. apart r s (p .0) y e) o)
 
-  by-stage : (k : ℕ) → ((number : ℕ) (side : Side) (index : ℕ) → A number side index → stage number side ≤ k) → ((number : ℕ) (side : Side) (index : ℕ) → B number side index → k < stage number side) → Apart
-  by-stage k f g number side index number′ side′ index′ x y (inl l) = omega (arith, f number side index x, g number′ side′ index′ y)
-  by-stage k f g number side index number′ side′ index′ x y (inr (e, r)) = omega (arith, f number side index x, g number′ side′ index′ y)
+  by-stage : (k : ℕ) → ((r : Refusal) → A r → stage r ≤ k) → ((r : Refusal) → B r → k < stage r) → Apart
+  by-stage k f g r q x y (inl l) = omega (arith, f r x, g q y)
+  by-stage k f g r q x y (inr (e, o)) = omega (arith, f r x, g q y)
 
 -- # Lines about one thing
 
@@ -129,13 +120,13 @@ firstLine [] side index = Accepted
 firstLine (l ∷ ls) side index = refuse (l .broken) (l .number) side index ⊳ firstLine ls side index
 
 abbrev Fault : List Line → Side → ℕ → Offences
-Fault ls side index number side′ index′ = (side′ ≡ side) × (index′ ≡ index) × (breaks ls number ≡ true)
+Fault ls side index r = (r .side ≡ side) × (r .index ≡ index) × (breaks ls (r .number) ≡ true)
 
 unbroken : (l : Line) (ls : List Line) (number : ℕ) → l .broken ≡ false → breaks (l ∷ ls) number ≡ breaks ls number
 unbroken l ls number e = rw (e, and-false (eqb (l .number) number))
 
 lines-judge : (numbers : List ℕ) (side : Side) (index low high : ℕ) (ls : List Line) → inOrder numbers side low high ls ≡ true → Judges (Fault ls side index) (firstLine ls side index)
-lines-judge numbers side index low high [] ordered = λ n s i o. absurd (false≢true (o .2))
+lines-judge numbers side index low high [] ordered = λ r o. absurd (false≢true (o .2))
 lines-judge numbers side index low high (l ∷ ls) ordered =
     go (l .broken) refl (lines-judge numbers side index (suc (l .number)) high ls rest)
   where
@@ -148,47 +139,48 @@ lines-judge numbers side index low high (l ∷ ls) ordered =
         (λ (h : breaks ls number ≡ true). omega (arith, broken-fits numbers side (suc (l .number)) high ls number rest h .from))
         (either (eqb (l .number) number && l .broken) (breaks ls number) b)
 
-    first : (number : ℕ) (side′ : Side) (index′ : ℕ) → Earlier number side′ index′ (l .number) side index → Fault (l ∷ ls) side index number side′ index′ → ⊥
-    first number side′ index′ e o =
-        not-earlier side index (l .number) number (not-before number (o .2))
-        (subst (λ s. Earlier number s index (l .number) side index) (o .0) (subst (λ i. Earlier number side′ i (l .number) side index) (o .1) e))
+    first : (r : Refusal) → Earlier r (refusal (l .number) side index) → Fault (l ∷ ls) side index r → ⊥
+    first r e o =
+        not-earlier (refusal (l .number) side index) (r .number) (not-before (r .number) (o .2))
+        (subst (λ s. Earlier (refusal (r .number) s index) (refusal (l .number) side index)) (o .0)
+        (subst (λ i. Earlier (refusal (r .number) (r .side) i) (refusal (l .number) side index)) (o .1) e))
 
     go : (b : Bool) → l .broken ≡ b → Judges (Fault ls side index) (firstLine ls side index) → Judges (Fault (l ∷ ls) side index) (refuse b (l .number) side index ⊳ firstLine ls side index)
     go true e j = ((refl, refl, rw (eq-eqb (l .number) (l .number) refl, e)), first)
     go false e j =
         same-judges (Fault ls side index) (Fault (l ∷ ls) side index) (firstLine ls side index)
-        (λ n s i o. (o .0, o .1, unbroken l ls n e ∙ o .2)) (λ n s i o. (o .0, o .1, sym (unbroken l ls n e) ∙ o .2)) j
+        (λ r o. (o .0, o .1, unbroken l ls (r .number) e ∙ o .2)) (λ r o. (o .0, o .1, sym (unbroken l ls (r .number) e) ∙ o .2)) j
 
 -- # Lines about each of n indices, of a side that is one stage
 
 abbrev Faults : (ℕ → List Line) → Side → ℕ → ℕ → Offences
-Faults ls side from n number side′ index = (side′ ≡ side) × (from ≤ index) × (index < from + n) × (breaks (ls index) number ≡ true)
+Faults ls side from n r = (r .side ≡ side) × (from ≤ r .index) × (r .index < from + n) × (breaks (ls (r .index)) (r .number) ≡ true)
 
-module _ (numbers : List ℕ) (side : Side) (low high : ℕ) (ls : ℕ → List Line) (ordered : (i : ℕ) → inOrder numbers side low high (ls i) ≡ true) (flat : (number number′ : ℕ) → stage number side ≡ stage number′ side) where
+module _ (numbers : List ℕ) (side : Side) (low high : ℕ) (ls : ℕ → List Line) (ordered : (i : ℕ) → inOrder numbers side low high (ls i) ≡ true) (flat : (number number′ : ℕ) → stageAt side number ≡ stageAt side number′) where
   rising : (from n : ℕ) → Apart (Fault (ls from) side from) (Faults ls side (from + 1) n)
-  rising from n number side₀ index number′ side′ index′ x y e =
-      let a : stage number side₀ ≡ stage number side = ap (stage number) (x .0) in
-      let b : stage number′ side′ ≡ stage number′ side = ap (stage number′) (y .0) in
-      let c : stage number′ side ≡ stage number side = flat number′ number in
-      ⊎-elim (λ l. omega arith) (λ r. ⊎-elim (λ l. omega (arith, x .1, y .1)) (λ q. omega (arith, x .1, y .1, q .0)) (r .1)) e
+  rising from n r q x y e =
+      let a : stage r ≡ stageAt side (r .number) = ap (λ s. stageAt s (r .number)) (x .0) in
+      let b : stage q ≡ stageAt side (q .number) = ap (λ s. stageAt s (q .number)) (y .0) in
+      let c : stageAt side (q .number) ≡ stageAt side (r .number) = flat (q .number) (r .number) in
+      ⊎-elim (λ l. omega arith) (λ o. ⊎-elim (λ l. omega (arith, x .1, y .1)) (λ p. omega (arith, x .1, y .1, p .0)) (o .1)) e
 
   abbrev judge : ℕ → Verdict
   judge i = firstLine (ls i) side i
 
   over-judges : (n from : ℕ) → Judges (Faults ls side from n) (over judge from n)
   unfolding over
-  over-judges zero from = λ number side′ index o. omega (arith, o .1, o .2)
+  over-judges zero from = λ r o. omega (arith, o .1, o .2)
   over-judges (suc n) from =
       same-judges (Either (Fault (ls from) side from) (Faults ls side (from + 1) n)) (Faults ls side from (suc n)) (judge from ⊳ over judge (from + 1) n) spread gathered
       (then-judges (Fault (ls from) side from) (Faults ls side (from + 1) n) (judge from) (over judge (from + 1) n) (rising from n) (lines-judge numbers side from low high (ls from) (ordered from)) (over-judges n (from + 1)))
     where
-      spread : (number : ℕ) (side′ : Side) (index : ℕ) → Either (Fault (ls from) side from) (Faults ls side (from + 1) n) number side′ index → Faults ls side from (suc n) number side′ index
-      spread number side′ index (inl (s, i, b)) = (s, omega arith, omega arith, subst (λ k. breaks (ls k) number ≡ true) (sym i) b)
-      spread number side′ index (inr (s, l, h, b)) = (s, omega arith, omega arith, b)
+      spread : (r : Refusal) → Either (Fault (ls from) side from) (Faults ls side (from + 1) n) r → Faults ls side from (suc n) r
+      spread r (inl (s, i, b)) = (s, omega arith, omega arith, subst (λ k. breaks (ls k) (r .number) ≡ true) (sym i) b)
+      spread r (inr (s, l, h, b)) = (s, omega arith, omega arith, b)
 
-      gathered : (number : ℕ) (side′ : Side) (index : ℕ) → Faults ls side from (suc n) number side′ index → Either (Fault (ls from) side from) (Faults ls side (from + 1) n) number side′ index
-      gathered number side′ index (s, l, h, b) =
-          ⊎-elim (λ e. inl (s, sym e, subst (λ k. breaks (ls k) number ≡ true) (sym e) b)) (λ q. inr (s, omega arith, omega arith, b)) (eq-or-lt-of-le l)
+      gathered : (r : Refusal) → Faults ls side from (suc n) r → Either (Fault (ls from) side from) (Faults ls side (from + 1) n) r
+      gathered r (s, l, h, b) =
+          ⊎-elim (λ e. inl (s, sym e, subst (λ k. breaks (ls k) (r .number) ≡ true) (sym e) b)) (λ q. inr (s, omega arith, omega arith, b)) (eq-or-lt-of-le l)
 
 -- # Offences decide the verdict
 
@@ -196,7 +188,7 @@ between : (b : Bool) (k : ℕ) → 0 < k → k < 3 → k ≡ cond b 0 3 → ⊥
 between true k l h e = omega arith
 between false k l h e = omega arith
 
-stage-tells : (number : ℕ) (a b : Side) → stage number a ≡ stage number b → a ≡ b
+stage-tells : (number : ℕ) (a b : Side) → stageAt a number ≡ stageAt b number → a ≡ b
 stage-tells number Record Record e = refl
 stage-tells number Record Part e = absurd (omega arith)
 stage-tells number Record Neither e = absurd (between (ltb number 3) 2 (omega arith) (omega arith) e)
@@ -207,27 +199,29 @@ stage-tells number Neither Record e = absurd (between (ltb number 3) 2 (omega ar
 stage-tells number Neither Part e = absurd (between (ltb number 3) 1 (omega arith) (omega arith) (sym e))
 stage-tells number Neither Neither e = refl
 
--- two offences of which neither comes earlier are one
-no-earlier : (number : ℕ) (side : Side) (index number′ : ℕ) (side′ : Side) (index′ : ℕ) → (Earlier number side index number′ side′ index′ → ⊥) → (Earlier number′ side′ index′ number side index → ⊥) → Refused number side index ≡ Refused number′ side′ index′
-no-earlier number side index number′ side′ index′ f g =
-    let a : ¬ (stage number side < stage number′ side′) = λ l. f (inl l) in
-    let b : ¬ (stage number′ side′ < stage number side) = λ l. g (inl l) in
-    let s : stage number side ≡ stage number′ side′ = omega (arith, a, b) in
-    let c : ¬ (index < index′) = λ l. f (inr (s, inl l)) in
-    let d : ¬ (index′ < index) = λ l. g (inr (sym s, inl l)) in
-    let i : index ≡ index′ = omega (arith, c, d) in
-    let h : ¬ (number < number′) = λ l. f (inr (s, inr (i, l))) in
-    let k : ¬ (number′ < number) = λ l. g (inr (sym s, inr (sym i, l))) in
-    let n : number ≡ number′ = omega (arith, h, k) in
-    let e : side ≡ side′ = stage-tells number side side′ (s ∙ ap (λ m. stage m side′) (sym n)) in
-    rw (n, e, i)
+same-refusal : (number number′ : ℕ) (side side′ : Side) (index index′ : ℕ) → number ≡ number′ → side ≡ side′ → index ≡ index′ → refusal number side index ≡ refusal number′ side′ index′
+same-refusal number number′ side side′ index index′ n s i = rw (n, s, i)
 
-judges-unique : (offends : ℕ → Side → ℕ → Type 0) (v w : Verdict) → Judges offends v → Judges offends w → v ≡ w
+-- two offences of which neither comes earlier are one
+no-earlier : (r q : Refusal) → (Earlier r q → ⊥) → (Earlier q r → ⊥) → r ≡ q
+no-earlier r q f g =
+    let a : ¬ (stage r < stage q) = λ l. f (inl l) in
+    let b : ¬ (stage q < stage r) = λ l. g (inl l) in
+    let s : stage r ≡ stage q = omega (arith, a, b) in
+    let c : ¬ (r .index < q .index) = λ l. f (inr (s, inl l)) in
+    let d : ¬ (q .index < r .index) = λ l. g (inr (sym s, inl l)) in
+    let i : r .index ≡ q .index = omega (arith, c, d) in
+    let h : ¬ (r .number < q .number) = λ l. f (inr (s, inr (i, l))) in
+    let k : ¬ (q .number < r .number) = λ l. g (inr (sym s, inr (sym i, l))) in
+    let n : r .number ≡ q .number = omega (arith, h, k) in
+    let e : r .side ≡ q .side = stage-tells (r .number) (r .side) (q .side) (s ∙ ap (λ m. stageAt (q .side) m) (sym n)) in
+    same-refusal (r .number) (q .number) (r .side) (q .side) (r .index) (q .index) n e i
+
+judges-unique : (offends : Refusal → Type 0) (v w : Verdict) → Judges offends v → Judges offends w → v ≡ w
 judges-unique offends Accepted Accepted p q = refl
-judges-unique offends Accepted (Refused number side index) p q = absurd (p number side index (q .0))
-judges-unique offends (Refused number side index) Accepted p q = absurd (q number side index (p .0))
-judges-unique offends (Refused number side index) (Refused number′ side′ index′) p q =
-    no-earlier number side index number′ side′ index′ (λ e. q .1 number side index e (p .0)) (λ e. p .1 number′ side′ index′ e (q .0))
+judges-unique offends Accepted (Refused r) p q = absurd (p r (q .0))
+judges-unique offends (Refused r) Accepted p q = absurd (q r (p .0))
+judges-unique offends (Refused r) (Refused s) p q = ap Refused (no-earlier r s (λ e. q .1 r e (p .0)) (λ e. p .1 s e (q .0)))
 
 -- # A table
 
@@ -258,40 +252,43 @@ module _ (numbers : List ℕ) (t : Table) (ordered : Ordered numbers t) where
   abbrev After : Offences
   After = Fault (t .after) Neither 0
 
-  staged-before : (number : ℕ) (side : Side) (index : ℕ) → Before number side index → stage number side ≤ 0
-  staged-before number side index o =
-      let h : number < 3 = broken-fits numbers Neither 1 3 (t .before) number (ordered .before) (o .2) .below in
-      rw (o .0, lt-ltb number 3 h) (omega arith)
+  staged-before : (r : Refusal) → Before r → stage r ≤ 0
+  staged-before r o =
+      let h : r .number < 3 = broken-fits numbers Neither 1 3 (t .before) (r .number) (ordered .before) (o .2) .below in
+      rw (o .0, lt-ltb (r .number) 3 h) (omega arith)
 
-  staged-after : (number : ℕ) (side : Side) (index : ℕ) → After number side index → 2 < stage number side
-  staged-after number side index o =
-      let h : 7 ≤ number = broken-fits numbers Neither 7 10 (t .after) number (ordered .after) (o .2) .from in
-      let l : 3 ≤ number = omega arith in
-      rw (o .0, le-ltb number 3 l) (omega arith)
+  staged-after : (r : Refusal) → After r → 2 < stage r
+  staged-after r o =
+      let h : 7 ≤ r .number = broken-fits numbers Neither 7 10 (t .after) (r .number) (ordered .after) (o .2) .from in
+      let l : 3 ≤ r .number = omega arith in
+      rw (o .0, le-ltb (r .number) 3 l) (omega arith)
 
-  staged-records : (number : ℕ) (side : Side) (index : ℕ) → Records number side index → stage number side ≡ 2
-  staged-records number side index o = ap (stage number) (o .0)
+  staged-records : (r : Refusal) → Records r → stage r ≡ 2
+  staged-records r o = ap (λ s. stageAt s (r .number)) (o .0)
 
-  staged-parts : (number : ℕ) (side : Side) (index : ℕ) → Parts number side index → stage number side ≡ 1
-  staged-parts number side index o = ap (stage number) (o .0)
+  staged-parts : (r : Refusal) → Parts r → stage r ≡ 1
+  staged-parts r o = ap (λ s. stageAt s (r .number)) (o .0)
 
-  from-records : (number : ℕ) (side : Side) (index : ℕ) → Either Records After number side index → 1 < stage number side
-  from-records number side index (inl o) = omega (arith, staged-records number side index o)
-  from-records number side index (inr o) = omega (arith, staged-after number side index o)
+  from-records : (r : Refusal) → Either Records After r → 1 < stage r
+  from-records r (inl o) = omega (arith, staged-records r o)
+  from-records r (inr o) = omega (arith, staged-after r o)
 
-  from-parts : (number : ℕ) (side : Side) (index : ℕ) → Either Parts (Either Records After) number side index → 0 < stage number side
-  from-parts number side index (inl o) = omega (arith, staged-parts number side index o)
-  from-parts number side index (inr o) = omega (arith, from-records number side index o)
+  from-parts : (r : Refusal) → Either Parts (Either Records After) r → 0 < stage r
+  from-parts r (inl o) = omega (arith, staged-parts r o)
+  from-parts r (inr o) = omega (arith, from-records r o)
 
-  listed : (number : ℕ) (side : Side) (index : ℕ) → Either Before (Either Parts (Either Records After)) number side index → Offends t number side index
-  listed number side index (inl (s, i, b)) =
-      subst (λ (q : Side). Offends t number q index) (sym s) (i, breaks-append (t .before) (t .after) number ∙ rw b)
-  listed number side index (inr (inl (s, l, h, b))) = subst (λ (q : Side). Offends t number q index) (sym s) (omega arith, b)
-  listed number side index (inr (inr (inl (s, l, h, b)))) = subst (λ (q : Side). Offends t number q index) (sym s) (omega arith, b)
-  listed number side index (inr (inr (inr (s, i, b)))) =
-      subst (λ (q : Side). Offends t number q index) (sym s) (i, breaks-append (t .before) (t .after) number ∙ rw b (or-true (breaks (t .before) number)))
+  -- an offence on the side that its own is
+  moved : (r : Refusal) (side : Side) → r .side ≡ side → Offends t (refusal (r .number) side (r .index)) → Offends t r
+  moved r side s = subst (λ (q : Side). Offends t (refusal (r .number) q (r .index))) (sym s)
 
-  parted : (number : ℕ) (side : Side) (index : ℕ) → Offends t number side index → Either Before (Either Parts (Either Records After)) number side index
+  listed : (r : Refusal) → Either Before (Either Parts (Either Records After)) r → Offends t r
+  listed r (inl (s, i, b)) = moved r Neither s (i, breaks-append (t .before) (t .after) (r .number) ∙ rw b)
+  listed r (inr (inl (s, l, h, b))) = moved r Part s (omega arith, b)
+  listed r (inr (inr (inl (s, l, h, b)))) = moved r Record s (omega arith, b)
+  listed r (inr (inr (inr (s, i, b)))) =
+      moved r Neither s (i, breaks-append (t .before) (t .after) (r .number) ∙ rw b (or-true (breaks (t .before) (r .number))))
+
+  parted : (number : ℕ) (side : Side) (index : ℕ) → Offends t (refusal number side index) → Either Before (Either Parts (Either Records After)) (refusal number side index)
   parted number Neither index (i, b) =
       ⊎-elim (λ h. inl (refl, i, h)) (λ h. inr (inr (inr (refl, i, h))))
       (either (breaks (t .before) number) (breaks (t .after) number) (sym (breaks-append (t .before) (t .after) number) ∙ b))
@@ -303,19 +300,19 @@ module _ (numbers : List ℕ) (t : Table) (ordered : Ordered numbers t) where
       let parts : Verdict = over (λ i. firstLine (t .ofPart i) Part i) 0 (t .parts) in
       let records : Verdict = over (λ i. firstLine (t .ofRecord i) Record i) 0 (t .records) in
       let after : Verdict = firstLine (t .after) Neither 0 in
-      same-judges (Either Before (Either Parts (Either Records After))) (Offends t) (firstOf t) listed parted
+      same-judges (Either Before (Either Parts (Either Records After))) (Offends t) (firstOf t) listed (λ r. parted (r .number) (r .side) (r .index))
       (then-judges Before (Either Parts (Either Records After)) (firstLine (t .before) Neither 0) (parts ⊳ records ⊳ after)
       (by-stage Before (Either Parts (Either Records After)) 0 staged-before from-parts)
       (lines-judge numbers Neither 0 1 3 (t .before) (ordered .before))
       (then-judges Parts (Either Records After) parts (records ⊳ after)
-      (by-stage Parts (Either Records After) 1 (λ n s i o. omega (arith, staged-parts n s i o)) from-records)
+      (by-stage Parts (Either Records After) 1 (λ r o. omega (arith, staged-parts r o)) from-records)
       (over-judges numbers Part 3 7 (t .ofPart) (ordered .parts) (λ n m. refl) (t .parts) 0)
       (then-judges Records After records after
-      (by-stage Records After 2 (λ n s i o. omega (arith, staged-records n s i o)) staged-after)
+      (by-stage Records After 2 (λ r o. omega (arith, staged-records r o)) staged-after)
       (over-judges numbers Record 3 7 (t .ofRecord) (ordered .records) (λ n m. refl) (t .records) 0)
       (lines-judge numbers Neither 0 7 10 (t .after) (ordered .after)))))
 
-  offence-listed : (number : ℕ) (side : Side) (index : ℕ) → Offends t number side index → (member numbers number ≡ true) × (member (sideNumbers side) number ≡ true)
+  offence-listed : (number : ℕ) (side : Side) (index : ℕ) → Offends t (refusal number side index) → (member numbers number ≡ true) × (member (sideNumbers side) number ≡ true)
   offence-listed number Neither index (i, b) =
       ⊎-elim (λ h. told (broken-fits numbers Neither 1 3 (t .before) number (ordered .before) h))
       (λ h. told (broken-fits numbers Neither 7 10 (t .after) number (ordered .after) h))
@@ -325,8 +322,8 @@ module _ (numbers : List ℕ) (t : Table) (ordered : Ordered numbers t) where
 
   judges-carries : (v : Verdict) → Judges (Offends t) v → Carries numbers t v
   judges-carries Accepted j = tt
-  judges-carries (Refused number side index) j =
-      let l : _ = offence-listed number side index (j .0) in
+  judges-carries (Refused r) j =
+      let l : _ = offence-listed (r .number) (r .side) (r .index) (j .0) in
       (l .0, l .1, j .0 .0)
 
   -- The law: a call that looks for the lines one after the other says what the table says.
@@ -336,6 +333,6 @@ module _ (numbers : List ℕ) (t : Table) (ordered : Ordered numbers t) where
       record {
         first = j;
         only = λ w q. judges-unique (Offends t) w v q j;
-        lower = λ number side index r number′ l o. (subst (Judges (Offends t)) r j) .1 number′ side index (lower-earlier side index number number′ l) o;
+        lower = λ r f number l o. (subst (Judges (Offends t)) f j) .1 (refusal number (r .side) (r .index)) (lower-earlier r number l) o;
         carries = judges-carries v j;
       }

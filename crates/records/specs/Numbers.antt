@@ -1,5 +1,5 @@
--- "Where an answer is an enum, a definition gives this paper's number and values for each case of the enum": the check's answers, and the
--- parser that it is asked for.
+-- "An enum's cases have their numbers from this document by a definition that the contracts use" (SCOPE 10): the check's answers, and
+-- the parser that it is asked for (4.4).
 use Prim.Native.Nat.{ℕ}
 use mathlib.Core.List.{List, [], _∷_}
 use Rattle.records.specs.declared.Side.{Side}
@@ -9,14 +9,14 @@ use Rattle.records.specs.declared.Parser.the-variants.{Simple, Myanmar, 
 use Rattle.records.specs.declared.Verdict.{Verdict}
 use Rattle.records.specs.declared.Verdict.the-variants.{Accepted, Refused}
 
--- in the order of document 01's list of modules; Khmer is complex with Khmer
+-- Khmer is complex with the script Khmer
 abbrev pub parserCode : Parser → ℕ
 parserCode Simple = 0
 parserCode Myanmar = 1
 parserCode Complex = 2
 parserCode Khmer = 3
 
--- what the index of a refusal counts: "say record or part"
+-- what the index of a refusal counts: records, parts or neither
 abbrev pub sideCode : Side → ℕ
 sideCode Neither = 0
 sideCode Record = 1
@@ -25,9 +25,9 @@ sideCode Part = 2
 -- the refusal's number in the table, and 0 where there is none
 abbrev pub numberOf : Verdict → ℕ
 numberOf Accepted = 0
-numberOf (Refused number side index) = number
+numberOf (Refused r) = r .number
 
 -- with its values: refusal, side, index
 abbrev pub numbersOf : Verdict → List ℕ
 numbersOf Accepted = 0 ∷ 0 ∷ 0 ∷ []
-numbersOf (Refused number side index) = number ∷ sideCode side ∷ index ∷ []
+numbersOf (Refused r) = r .number ∷ sideCode (r .side) ∷ r .index ∷ []

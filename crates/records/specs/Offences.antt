@@ -1,4 +1,4 @@
--- Document 01's table of refusals as a table: its lines about the whole, about each part and about each record, which of them are broken,
+-- The table of refusals (SCOPE 5.1) as a table: its lines about the whole, about each part and about each record, which of them are broken,
 -- and the order in which they are looked for. `verdict` of Refusals says how the check goes; `ByTable` says what it comes to, of the
 -- check and of every other call that refuses.
 use Prim.Native.Nat.{ℕ, zero, suc, _+_, _<_}
@@ -8,8 +8,9 @@ use mathlib.Core.List.{List, [], _∷_, _++_}
 use mathlib.Core.Logic.{_⊎_}
 use lib.Dec.{eqb, ltb}
 use lib.ListN.{length}
+use Rattle.basics.specs.Sets.{member}
 use Rattle.records.specs.Text.{Text, cell, rowOf, partOf, recordLengths, partLengths}
-use Rattle.records.specs.Refusals.{isKhmer, member, tooLong, uneven, badScalar, outside, partCodes, recordClasses, recordMarks, badRun, barred, badSign, coded, mark}
+use Rattle.records.specs.Refusals.{refusal, isKhmer, tooLong, uneven, badScalar, outside, partCodes, recordClasses, recordMarks, badRun, barred, badSign, coded, mark}
 use Rattle.records.specs.Numbers.{numberOf}
 use Rattle.records.specs.declared.Row.{Row}
 use Rattle.records.specs.declared.PartRow.{PartRow}
@@ -17,6 +18,7 @@ use Rattle.records.specs.declared.Side.{Side}
 use Rattle.records.specs.declared.Side.the-variants.{Record, Part, Neither}
 use Rattle.records.specs.declared.Parser.{Parser}
 use Rattle.records.specs.declared.Parser.the-variants.{Complex, Khmer}
+use Rattle.records.specs.declared.Refusal.{Refusal}
 use Rattle.records.specs.declared.Verdict.{Verdict}
 use Rattle.records.specs.declared.Verdict.the-variants.{Accepted, Refused}
 use Rattle.classes.specs.WordBreak as WordBreak
@@ -36,7 +38,8 @@ abbrev pub breaks : List Line → ℕ → Bool
 breaks [] number = false
 breaks (l ∷ ls) number = eqb (l .number) number && l .broken || breaks ls number
 
--- "1 and 2 come first. Then 3, 4, 6 over parts by rising index, then 3, 4, 5, 6 over records by rising index, then 7, 8, 9."
+-- "First 1 over all columns, then 2. Then the parts by rising index, each for 3, 4 and 6. Then the records by rising index, each for 3,
+-- 4, 5 and 6. Then 7, 8, 9." (SCOPE 5.3)
 pub record Table : Type 0 where
   pub before : List Line
   pub parts : ℕ
@@ -53,38 +56,40 @@ linesAt t Neither index = t .before ++ t .after
 linesAt t Part index = t .ofPart index
 linesAt t Record index = t .ofRecord index
 
--- "3 to 6 carry the index and say record or part; the others carry 0."
+-- "Refusals 3, 4, 5 and 6 name the offender: its index, and whether it is a record or a part …. The others carry the side neither and
+-- the index 0." (SCOPE 5.4)
 abbrev pub Within : Table → Side → ℕ → Type 0
 Within t Neither index = index ≡ 0
 Within t Part index = index < t .parts
 Within t Record index = index < t .records
 
--- the line of this number is broken there
-abbrev pub Offends : Table → ℕ → Side → ℕ → Type 0
-Offends t number side index = Within t side index × (breaks (linesAt t side index) number ≡ true)
+-- the line of its number is broken there
+abbrev pub Offends : Table → Refusal → Type 0
+Offends t r = Within t (r .side) (r .index) × (breaks (linesAt t (r .side) (r .index)) (r .number) ≡ true)
 
 -- # Their order
 
 -- what is about neither comes first with 1 and 2, and last with 7, 8 and 9
-abbrev pub stage : ℕ → Side → ℕ
-stage number Neither = cond (ltb number 3) 0 3
-stage number Part = 1
-stage number Record = 2
+abbrev pub stageAt : Side → ℕ → ℕ
+stageAt Neither number = cond (ltb number 3) 0 3
+stageAt Part number = 1
+stageAt Record number = 2
 
--- "by rising index"; "Within one index the lower number wins."
-abbrev pub Earlier : ℕ → Side → ℕ → ℕ → Side → ℕ → Type 0
-Earlier number side index number′ side′ index′ =
-    (stage number side < stage number′ side′)
-    ⊎ ((stage number side ≡ stage number′ side′) × ((index < index′) ⊎ ((index ≡ index′) × (number < number′))))
+abbrev pub stage : Refusal → ℕ
+stage r = stageAt (r .side) (r .number)
+
+-- by rising index, and "of one record or part the smallest number is told" (SCOPE 5.3)
+abbrev pub Earlier : Refusal → Refusal → Type 0
+Earlier r q =
+    (stage r < stage q)
+    ⊎ ((stage r ≡ stage q) × ((r .index < q .index) ⊎ ((r .index ≡ q .index) × (r .number < q .number))))
 
 -- # What a verdict says
 
 -- no offence, or the first one: this is one, and none comes earlier
-abbrev pub Judges : (ℕ → Side → ℕ → Type 0) → Verdict → Type 0
-Judges offends Accepted = (number : ℕ) (side : Side) (index : ℕ) → offends number side index → ⊥
-Judges offends (Refused number side index) =
-    offends number side index
-    × ((number′ : ℕ) (side′ : Side) (index′ : ℕ) → Earlier number′ side′ index′ number side index → offends number′ side′ index′ → ⊥)
+abbrev pub Judges : (Refusal → Type 0) → Verdict → Type 0
+Judges offends Accepted = (r : Refusal) → offends r → ⊥
+Judges offends (Refused r) = offends r × ((q : Refusal) → Earlier q r → offends q → ⊥)
 
 -- the numbers that go with a side: 5 is about records alone
 abbrev pub sideNumbers : Side → List ℕ
@@ -95,17 +100,18 @@ sideNumbers Record = 3 ∷ 4 ∷ 5 ∷ 6 ∷ []
 -- a refusal has one of the call's numbers, which goes with its side, and its index is of that side
 abbrev pub Carries : List ℕ → Table → Verdict → Type 0
 Carries numbers t Accepted = Unit
-Carries numbers t (Refused number side index) =
-    (member numbers number ≡ true) × (member (sideNumbers side) number ≡ true) × Within t side index
+Carries numbers t (Refused r) =
+    (member numbers (r .number) ≡ true) × (member (sideNumbers (r .side)) (r .number) ≡ true) × Within t (r .side) (r .index)
 
--- all of it, of a call that can give these numbers: "Given exactly when", so that no other verdict would be right
+-- all of it, of a call that can give these numbers: where a line holds "and never otherwise" (SCOPE 5.1), so that no other verdict would
+-- be right
 pub record ByTable (numbers : List ℕ) (t : Table) (v : Verdict) : Type 0 where
   pub first : Judges (Offends t) v
   pub only : (w : Verdict) → Judges (Offends t) w → w ≡ v
-  pub lower : (number : ℕ) (side : Side) (index : ℕ) → v ≡ Refused number side index → (number′ : ℕ) → number′ < number → Offends t number′ side index → ⊥
+  pub lower : (r : Refusal) → v ≡ Refused r → (number : ℕ) → number < r .number → Offends t (refusal number (r .side) (r .index)) → ⊥
   pub carries : Carries numbers t v
 
--- "complex only", "complex with Khmer"
+-- 6 is of complex, Khmer or not, and 7 of Khmer
 pub record Asks (parser : Parser) (v : Verdict) : Type 0 where
   pub six : numberOf v ≡ 6 → (parser ≡ Complex) ⊎ (parser ≡ Khmer)
   pub seven : numberOf v ≡ 7 → parser ≡ Khmer
@@ -157,7 +163,7 @@ tableOf parser t more =
 abbrev pub wordLines : List ℕ → List ℕ → ℕ → List Line
 wordLines words pictographs i = line 4 (outside (coded (cell words i) WordBreak.len ∷ mark (cell pictographs i) ∷ [])) ∷ []
 
--- "The word run takes two columns (word class, pictograph) and checks 1, 2, 4 and 9, in that order"; 9 is the run's own
+-- the word run, "over the columns word class and pictograph alone": 1, 2, 4, 9 (SCOPE 5.5); 9 is the run's own
 abbrev pub wordTableOf : List ℕ → List ℕ → List Line → Table
 wordTableOf words pictographs more =
     record {

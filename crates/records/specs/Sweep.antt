@@ -1,7 +1,7 @@
--- What the check by columns looks for: enough for no refusal but 7, and not less than the table asks.
+-- What only private contracts need. What the check by columns looks for: enough for no refusal but 7, and not less than the table asks.
 use Prim.Native.Nat.{ℕ, _+_, _<_, _≤_}
 use mathlib.Core.Path.{_≡_}
-use mathlib.Core.Bool.{Bool, true, false}
+use mathlib.Core.Bool.{false}
 use mathlib.Core.List.{List, [], _∷_}
 use lib.Dec.{eqb}
 use lib.ListN.{length, getD}

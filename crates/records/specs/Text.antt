@@ -1,4 +1,5 @@
--- The lent text of document 01: "a set of lent columns of one length" for the records, "a second set of columns" for the parts.
+-- The lent text: eighteen columns, "fourteen with a cell for each record, one record a character, and four with a cell for each part"
+-- (SCOPE 2.1).
 use Prim.Native.Nat.{ℕ}
 use mathlib.Core.List.{List, [], _∷_}
 use lib.ListN.{length, getD}

@@ -1,12 +1,13 @@
 // Reading the columns: a cell past the end is 0, so that no reader asks anything of its caller.
 ghost use mathlib.Core.Path.{_≡_};
-ghost use mathlib.Core.Bool.{cond, _||_};
+ghost use mathlib.Core.Bool.{cond};
 ghost use lib.Bits.{bitOr};
-ghost use lib.Dec.{leb, ltb};
+ghost use lib.Dec.{ltb};
 ghost use lib.ListN.{length, take};
 ghost use Prim.Native.Nat.{_<_};
+ghost use Rattle.basics.specs.Sets.{any, member};
 ghost use Rattle.records.specs.Text.{cell, column, lent};
-ghost use Rattle.records.specs.Refusals.{any, member};
+ghost use Rattle.records.specs.Refusals;
 
 pub fn cell8(column: &[u8], i: usize) -> u8
     ensures { λ r. ⌜ r ≡ cell (now (column .entry)) i ⌝ }
@@ -111,7 +112,7 @@ pub fn any_above(lengths: &[usize], most: usize) -> bool
 
 // Whether the lengths differ.
 pub fn uneven(lengths: &[usize]) -> bool
-    ensures { λ r. ⌜ r ≡ Rattle.records.specs.Refusals.uneven (now (lengths .entry)) ⌝ }
+    ensures { λ r. ⌜ r ≡ Refusals.uneven (now (lengths .entry)) ⌝ }
 {
     let mut i: usize = 0;
     while i < lengths.len() {

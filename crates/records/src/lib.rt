@@ -1,4 +1,4 @@
-// The check of a lent text: refusals 1 to 7 of document 01, in its testing order, and the word run's own check. Every call of the
+// The check of a lent text: refusals 1 to 7 (SCOPE 5.1), in their order, and the word run's own check. Every call of the
 // library begins with one of the two and hands a refusal out unchanged.
 pub mod cells;
 mod columns;
@@ -6,6 +6,7 @@ mod judge;
 mod sets;
 
 use columns::passes;
+pub use judge::is_khmer;
 pub use judge::is_outside;
 pub use judge::is_sign;
 use judge::judge_lengths;
@@ -16,12 +17,26 @@ use sets::judge_words;
 ghost use mathlib.Core.Path.{_≡_};
 ghost use Rattle.records.specs.Text.{textOf, lent};
 ghost use Rattle.records.specs.Refusals.{verdict, wordVerdict};
+ghost use Rattle.records.specs.Numbers.{sideCode, parserCode};
 
 // What a refusal's index counts.
 pub enum Side {
     Record,
     Part,
     Neither,
+}
+
+impl Side {
+    // The number that a call tells for the side.
+    pub fn code(self) -> u8
+        ensures { λ r. ⌜ r ≡ sideCode self ⌝ }
+    {
+        match self {
+            Side::Neither => 0,
+            Side::Record => 1,
+            Side::Part => 2,
+        }
+    }
 }
 
 // Whom the text is checked for: complex with and without Khmer differ in refusal 7.
@@ -32,13 +47,30 @@ pub enum Parser {
     Khmer,
 }
 
+impl Parser {
+    // The number by which a caller asks for the parser.
+    pub fn code(self) -> u8
+        ensures { λ r. ⌜ r ≡ parserCode self ⌝ }
+    {
+        match self {
+            Parser::Simple => 0,
+            Parser::Myanmar => 1,
+            Parser::Complex => 2,
+            Parser::Khmer => 3,
+        }
+    }
+}
+
+// A refusal: its number in the table of SCOPE 5.1, and what it is about; where that is neither a record nor a part, the index is 0.
+pub struct Refusal {
+    pub number: u8,
+    pub side: Side,
+    pub index: usize,
+}
+
 pub enum Verdict {
     Accepted,
-    Refused {
-        number: u8,
-        side: Side,
-        index: usize,
-    },
+    Refused(Refusal),
 }
 
 // The cells of one record.

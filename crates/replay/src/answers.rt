@@ -5,6 +5,7 @@ use crate::refusals::refusal;
 use crate::texts::Ask;
 use crate::texts::text;
 use crate::zeros;
+use crate::zeros::CELLS;
 use cases::Line;
 use records::Verdict;
 use records::cells::cell8;
@@ -12,7 +13,7 @@ use words::WordState;
 use words::WordStep;
 
 // The first n cells, one blank between.
-fn cells(to: &mut Buffer, at: usize, answers: &[u8; 65535], n: usize) -> usize {
+fn cells(to: &mut Buffer, at: usize, answers: &[u8; CELLS], n: usize) -> usize {
     let mut end = at;
     let mut i: usize = 0;
     while i < n {
@@ -26,7 +27,7 @@ fn cells(to: &mut Buffer, at: usize, answers: &[u8; 65535], n: usize) -> usize {
 }
 
 fn word_run(to: &mut Buffer, at: usize, line: &[u8], size: u32, records: usize) -> usize {
-    let section = cases::part(line, b';', 2);
+    let section = cases::span(line, b';', 2);
     let mut classes = zeros::column8();
     let mut pictographs = zeros::column8();
     let mut answers = zeros::cells8();
@@ -36,11 +37,7 @@ fn word_run(to: &mut Buffer, at: usize, line: &[u8], size: u32, records: usize) 
     let verdict = words::run(&classes[..n], &pictographs[..m], &mut answers[..k]);
     match verdict {
         Verdict::Accepted => cells(to, at, &answers, n),
-        Verdict::Refused {
-            number,
-            side: s,
-            index,
-        } => refusal(to, at, number, s, index),
+        Verdict::Refused(r) => refusal(to, at, r),
     }
 }
 
@@ -67,12 +64,8 @@ fn word_step(to: &mut Buffer, at: usize, step: WordStep) -> usize {
         Verdict::Accepted => {
             end = out::decimal(to, end, step.answer as u64);
         }
-        Verdict::Refused {
-            number,
-            side: s,
-            index,
-        } => {
-            end = refusal(to, end, number, s, index);
+        Verdict::Refused(r) => {
+            end = refusal(to, end, r);
         }
     }
     end = out::put(to, end, b';');

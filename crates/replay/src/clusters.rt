@@ -55,7 +55,7 @@ fn mark(b: bool, letter: u8) -> u8 {
     if b { letter } else { b'.' }
 }
 
-fn signs(to: &mut Buffer, at: usize, info: Info) -> usize {
+fn known(to: &mut Buffer, at: usize, info: Info) -> usize {
     let kind = info.emoji;
     let of = info.space;
     let mut end = out::put(to, at, emoji(kind));
@@ -79,5 +79,5 @@ pub(crate) fn call(
     end = out::put(to, end, b':');
     end = characters(to, end, cluster);
     end = out::put(to, end, b':');
-    signs(to, end, info)
+    known(to, end, info)
 }

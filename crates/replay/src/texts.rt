@@ -4,6 +4,8 @@ use crate::out;
 use crate::out::Buffer;
 use crate::refusals::refusal;
 use crate::zeros;
+use crate::zeros::CELLS;
+use crate::zeros::COLUMN;
 use cases::column8;
 use cases::column16;
 use cases::column32;
@@ -23,6 +25,7 @@ use segment::Segmenter;
 use segment::What;
 use segment::run_in;
 ghost use Prim.Native.Nat.{_≤_};
+ghost use Rattle.cases.specs.Numbers.{most16};
 
 // What a line asks for: a full run into so many cells, or stepping calls from a place on.
 pub struct Ask {
@@ -32,7 +35,7 @@ pub struct Ask {
     pub number: usize,
 }
 
-// The stepping calls from the segmenter's place on. Each passes a token, so the turns are never used up.
+// The stepping calls from the segmenter's place on. Each passes a token, so the loop ends.
 fn calls<'s, 'a>(
     to: &mut Buffer,
     at: usize,
@@ -43,8 +46,8 @@ fn calls<'s, 'a>(
 ) -> usize {
     let mut end = at;
     let mut state = s;
-    let mut turns = u64::MAX;
-    while turns > 0 {
+    let mut more = true;
+    while more {
         let from = state.place.at;
         let answer = state.next_in(wides, bytes, firsts);
         let after = answer.state;
@@ -52,9 +55,8 @@ fn calls<'s, 'a>(
         let what = answer.what;
         if let What::Found = what {
             end = call(to, end, from, after.place.at, cluster);
-            turns -= 1;
         } else {
-            turns = 0;
+            more = false;
         }
         state = after;
     }
@@ -70,8 +72,8 @@ fn token_count<'s, 'a>(
     match parser {
         Parser::Simple => record_count(wides, bytes, firsts),
         Parser::Myanmar => record_count(wides, bytes, firsts),
-        Parser::Complex => tokens::count(false, wides, bytes, firsts),
-        Parser::Khmer => tokens::count(true, wides, bytes, firsts),
+        Parser::Complex => stream::count(false, wides, bytes, firsts),
+        Parser::Khmer => stream::count(true, wides, bytes, firsts),
     }
 }
 
@@ -86,12 +88,8 @@ fn steps<'s, 'a>(
 ) -> usize {
     let answer = s.next_in(wides, bytes, firsts);
     let what = answer.what;
-    if let What::Bad {
-        number,
-        side,
-        index,
-    } = what {
-        return refusal(to, at, number, side, index);
+    if let What::Refused(r) = what {
+        return refusal(to, at, r);
     }
     let parser = s.parser;
     let n = token_count(parser, wides, bytes, firsts);
@@ -104,9 +102,9 @@ fn written(
     to: &mut Buffer,
     at: usize,
     n: usize,
-    oscalars: &[u32; 65535],
-    oclasses: &[u8; 65535],
-    oclusters: &[u16; 65535],
+    oscalars: &[u32; CELLS],
+    oclasses: &[u8; CELLS],
+    oclusters: &[u16; CELLS],
 ) -> usize {
     let mut end = at;
     let mut i: usize = 0;
@@ -127,12 +125,8 @@ fn written(
 // "CLUSTERS PUSHED|", or the refusal.
 fn ran(to: &mut Buffer, at: usize, answer: RunAnswer) -> usize {
     let verdict = answer.verdict;
-    if let Verdict::Refused {
-        number,
-        side,
-        index,
-    } = verdict {
-        return refusal(to, at, number, side, index);
+    if let Verdict::Refused(r) = verdict {
+        return refusal(to, at, r);
     }
     let mut end = out::decimal(to, at, answer.clusters as u64);
     end = out::put(to, end, b' ');
@@ -194,9 +188,9 @@ fn asked<'s, 'a>(
 
 // No column of a case has more cells.
 fn most(cells: usize) -> usize
-    ensures { λ r. ⌜ r ≤ 65535 ⌝ }
+    ensures { λ r. ⌜ r ≤ most16 ⌝ }
 {
-    if cells < 65535 { cells } else { 65535 }
+    if cells < CELLS { cells } else { CELLS }
 }
 
 // The columns are as long as the text has items. They are packed here, where all have one lifetime.
@@ -206,24 +200,24 @@ fn cut<'a>(
     ask: Ask,
     records: usize,
     parts: usize,
-    scalars: &'a [u32; 4097],
-    breaks: &'a [u8; 4097],
-    uses: &'a [u8; 4097],
-    myanmars: &'a [u8; 4097],
-    categories: &'a [u8; 4097],
-    words: &'a [u8; 4097],
-    semojis: &'a [u8; 4097],
-    memojis: &'a [u8; 4097],
-    cemojis: &'a [u8; 4097],
-    pictographs: &'a [u8; 4097],
-    selectors: &'a [u8; 4097],
-    decomposes: &'a [u8; 4097],
-    firsts: &'a [u16; 4097],
-    counts: &'a [u8; 4097],
-    pscalars: &'a [u32; 4097],
-    pbreaks: &'a [u8; 4097],
-    puses: &'a [u8; 4097],
-    pcategories: &'a [u8; 4097],
+    scalars: &'a [u32; COLUMN],
+    breaks: &'a [u8; COLUMN],
+    uses: &'a [u8; COLUMN],
+    myanmars: &'a [u8; COLUMN],
+    categories: &'a [u8; COLUMN],
+    words: &'a [u8; COLUMN],
+    semojis: &'a [u8; COLUMN],
+    memojis: &'a [u8; COLUMN],
+    cemojis: &'a [u8; COLUMN],
+    pictographs: &'a [u8; COLUMN],
+    selectors: &'a [u8; COLUMN],
+    decomposes: &'a [u8; COLUMN],
+    firsts: &'a [u16; COLUMN],
+    counts: &'a [u8; COLUMN],
+    pscalars: &'a [u32; COLUMN],
+    pbreaks: &'a [u8; COLUMN],
+    puses: &'a [u8; COLUMN],
+    pcategories: &'a [u8; COLUMN],
 ) -> usize {
     let wides = [first32(scalars, records), first32(pscalars, parts)];
     let bytes = [
@@ -246,27 +240,27 @@ fn cut<'a>(
     asked(to, at, ask, &wides, &bytes, first16(firsts, records))
 }
 
-fn read8(section: &[u8], k: usize, n: usize) -> [u8; 4097] {
+fn read8(section: &[u8], k: usize, n: usize) -> [u8; COLUMN] {
     let mut column = zeros::column8();
     column8(section, k, n, &mut column);
     column
 }
 
-fn read16(section: &[u8], k: usize, n: usize) -> [u16; 4097] {
+fn read16(section: &[u8], k: usize, n: usize) -> [u16; COLUMN] {
     let mut column = zeros::column16();
     column16(section, k, n, &mut column);
     column
 }
 
-fn read32(section: &[u8], k: usize, n: usize) -> [u32; 4097] {
+fn read32(section: &[u8], k: usize, n: usize) -> [u32; COLUMN] {
     let mut column = zeros::column32();
     column32(section, k, n, &mut column);
     column
 }
 
 pub(crate) fn text(to: &mut Buffer, at: usize, line: &[u8], ask: Ask, n: usize, m: usize) -> usize {
-    let section = cases::part(line, b';', 4);
-    let second = cases::part(line, b';', 5);
+    let section = cases::span(line, b';', 4);
+    let second = cases::span(line, b';', 5);
     cut(
         to,
         at,

@@ -2,10 +2,11 @@
 -- Assumes nothing.
 use Prim.Native.Nat.{ℕ, _<_}
 use mathlib.Core.Path.{_≡_, refl, sym, _∙_, ap, subst}
-use mathlib.Core.Bool.{Bool, true, false, cond}
+use mathlib.Core.Bool.{Bool, true, false, cond, false≢true}
 use mathlib.Core.List.{List}
 use native.Mathlib.Omega.{arith}
 use lib.ListN.{length}
+use Rattle.basics.proofs.Tests.{if-intro, by-test, both-of}
 use Rattle.classes.specs.declared.Shape.{Shape}
 use Rattle.classes.specs.declared.Shape.the-variants.{Other}
 use Rattle.classes.specs.declared.Mode.the-variants.{Whole}
@@ -13,8 +14,8 @@ use Rattle.parse.specs.declared.Parse.{Parse}
 use Rattle.parse.specs.declared.Info.{Info}
 use Rattle.parse.specs.declared.Flow.the-variants.{GoOn, Stop}
 use Rattle.parse.specs.State.{tokenAt, going, withFlow, withInfo, withAgain, turns, putOf, notedOf, movedOf, onJoiner, hop, stepOf, pushOf, noteOf, goOn, passesEnd, resumedOf, retriedOf}
-use Rattle.parse.specs.Rule.{Test, Rule, skip, stop, push, note, mark, seq, choose, while, part, thrice, run, holds, take, thriceOf}
-use Rattle.parse.proofs.Loop.{false-true, if-intro, by-test, both, loop-keeps}
+use Rattle.parse.specs.Rule.{Test, Rule, skip, stop, push, note, mark, seq, choose, while, scope, thrice, run, holds, take, thriceOf}
+use Rattle.parse.proofs.Loop.{loop-keeps}
 use Rattle.parse.proofs.Moves.{moved-case, put-same, noted-same}
 use Rattle.parse.proofs.Keeps.{thrice-mode}
 use Rattle.parse.proofs.Steps.{going-flow}
@@ -54,20 +55,20 @@ join (mark f) b = seq (mark f) b
 join (seq a c) b = seq (seq a c) b
 join (choose p a c) b = seq (choose p a c) b
 join (while p a) b = seq (while p a) b
-join (part a) b = seq (part a) b
+join (scope a) b = seq (scope a) b
 join (thrice c) b = seq (thrice c) b
 
 abbrev pub close : Rule → Rule
 close skip = skip
-close stop = part stop
-close (push f) = part (push f)
-close note = part note
-close (mark f) = part (mark f)
-close (seq a c) = part (seq a c)
-close (choose p a c) = part (choose p a c)
-close (while p a) = part (while p a)
-close (part a) = part (part a)
-close (thrice c) = part (thrice c)
+close stop = scope stop
+close (push f) = scope (push f)
+close note = scope note
+close (mark f) = scope (mark f)
+close (seq a c) = scope (seq a c)
+close (choose p a c) = scope (choose p a c)
+close (while p a) = scope (while p a)
+close (scope a) = scope (scope a)
+close (thrice c) = scope (thrice c)
 
 abbrev pub chain : Res → Res → Rule → Res
 chain (pass m) y b = before m y
@@ -89,7 +90,7 @@ first ask (mark f) = pass f
 first ask (seq a b) = chain (first ask a) (first ask b) b
 first ask (choose p a b) = cond (ask p) (first ask a) (first ask b)
 first ask (while p a) = cond (ask p) (chain (first ask a) (pass none) (while p a)) (pass none)
-first ask (part a) = inner (first ask a)
+first ask (scope a) = inner (first ask a)
 first ask (thrice c) = act none (put (λ t. c)) (seq (take c) (take c))
 
 abbrev pub does : List ℕ → Act → Parse → Parse
@@ -115,7 +116,7 @@ run-join (mark f) b text s = refl
 run-join (seq a c) b text s = refl
 run-join (choose p a c) b text s = refl
 run-join (while p a) b text s = refl
-run-join (part a) b text s = refl
+run-join (scope a) b text s = refl
 run-join (thrice c) b text s = refl
 
 resume-same : (s : Parse) → goOn (s .flow) ≡ s .flow → resumedOf s ≡ s
@@ -124,9 +125,9 @@ resume-same s e = ap (λ f. withFlow f s) e
 flow-stays : (s : Parse) → going s ≡ true → goOn (s .flow) ≡ s .flow
 flow-stays s g = ap goOn (going-flow (s .flow) g) ∙ sym (going-flow (s .flow) g)
 
-run-part : (a : Rule) (text : List ℕ) (s : Parse) → going s ≡ true → run (part a) text s ≡ resumedOf (run a text s)
+run-scope : (a : Rule) (text : List ℕ) (s : Parse) → going s ≡ true → run (scope a) text s ≡ resumedOf (run a text s)
 unfolding run
-run-part a text s g = rw g
+run-scope a text s g = rw g
 
 -- after an act the flow is not Stop
 abbrev NoStop : Parse → Type 0
@@ -152,22 +153,22 @@ unfolding pushOf noteOf
 does-nostop text (put f) s g = let t = tokenAt text (s .at) in nostop-step text (putOf t (f t) s) (nostop-put t (f t) s (flow-stays s g))
 does-nostop text noted s g = let t = tokenAt text (s .at) in nostop-step text (notedOf t s) (nostop-noted t s (flow-stays s g))
 
-part-any : (a : Rule) (text : List ℕ) (q : Parse) → NoStop q → run (part a) text q ≡ resumedOf (run a text q)
-part-any a text q n = by-test (going q) (λ g. run-part a text q g)
-    (λ g. run-still (part a) text q g ∙ sym (ap resumedOf (run-still a text q g) ∙ resume-same q n))
+scope-any : (a : Rule) (text : List ℕ) (q : Parse) → NoStop q → run (scope a) text q ≡ resumedOf (run a text q)
+scope-any a text q n = by-test (going q) (λ g. run-scope a text q g)
+    (λ g. run-still (scope a) text q g ∙ sym (ap resumedOf (run-still a text q g) ∙ resume-same q n))
 
 run-close : (a : Rule) (text : List ℕ) (q : Parse) → NoStop q → run (close a) text q ≡ resumedOf (run a text q)
 unfolding run
 run-close skip text q n = sym (resume-same q n)
-run-close stop text q n = part-any stop text q n
-run-close (push f) text q n = part-any (push f) text q n
-run-close note text q n = part-any note text q n
-run-close (mark f) text q n = part-any (mark f) text q n
-run-close (seq a c) text q n = part-any (seq a c) text q n
-run-close (choose p a c) text q n = part-any (choose p a c) text q n
-run-close (while p a) text q n = part-any (while p a) text q n
-run-close (part a) text q n = part-any (part a) text q n
-run-close (thrice c) text q n = part-any (thrice c) text q n
+run-close stop text q n = scope-any stop text q n
+run-close (push f) text q n = scope-any (push f) text q n
+run-close note text q n = scope-any note text q n
+run-close (mark f) text q n = scope-any (mark f) text q n
+run-close (seq a c) text q n = scope-any (seq a c) text q n
+run-close (choose p a c) text q n = scope-any (choose p a c) text q n
+run-close (while p a) text q n = scope-any (while p a) text q n
+run-close (scope a) text q n = scope-any (scope a) text q n
+run-close (thrice c) text q n = scope-any (thrice c) text q n
 
 before-claim : (text : List ℕ) (m : Marks) (s q : Parse) (y : Res) → Claim text y (marked text m s) q → Claim text (before m y) s q
 unfolding Claim
@@ -203,7 +204,7 @@ Calm text ask s (mark f) = Unit {0}
 Calm text ask s (seq a b) = Calm text ask s a × Calm text ask s b
 Calm text ask s (choose p a b) = (ask p ≡ true → Calm text ask s a) × (ask p ≡ false → Calm text ask s b)
 Calm text ask s (while p a) = Calm text ask s a
-Calm text ask s (part a) = Calm text ask s a
+Calm text ask s (scope a) = Calm text ask s a
 Calm text ask s (thrice c) = (m : Marks) → retriedOf (thriceOf text c (marked text m s)) ≡ thriceOf text c (marked text m s)
 
 calm-marked : (text : List ℕ) (ask : Test → Bool) (s : Parse) (m : Marks) (r : Rule) → Calm text ask s r → Calm text ask (marked text m s) r
@@ -216,7 +217,7 @@ calm-marked text ask s m (mark f) c = tt
 calm-marked text ask s m (seq a b) c = (calm-marked text ask s m a (c .0), calm-marked text ask s m b (c .1))
 calm-marked text ask s m (choose p a b) c = ((λ h. calm-marked text ask s m a (c .0 h)), (λ h. calm-marked text ask s m b (c .1 h)))
 calm-marked text ask s m (while p a) c = calm-marked text ask s m a c
-calm-marked text ask s m (part a) c = calm-marked text ask s m a c
+calm-marked text ask s m (scope a) c = calm-marked text ask s m a c
 calm-marked text ask s m (thrice x) c = λ u. c (λ t i. u t (m t i))
 
 -- a rule with no kinzi in it is calm
@@ -227,11 +228,11 @@ calm-free text ask s stop h = tt
 calm-free text ask s (push f) h = tt
 calm-free text ask s note h = tt
 calm-free text ask s (mark f) h = tt
-calm-free text ask s (seq a b) h = let z = both (free a) (free b) h in (calm-free text ask s a (z .0), calm-free text ask s b (z .1))
-calm-free text ask s (choose p a b) h = let z = both (free a) (free b) h in ((λ e. calm-free text ask s a (z .0)), (λ e. calm-free text ask s b (z .1)))
+calm-free text ask s (seq a b) h = let z = both-of (free a) (free b) h in (calm-free text ask s a (z .0), calm-free text ask s b (z .1))
+calm-free text ask s (choose p a b) h = let z = both-of (free a) (free b) h in ((λ e. calm-free text ask s a (z .0)), (λ e. calm-free text ask s b (z .1)))
 calm-free text ask s (while p a) h = calm-free text ask s a h
-calm-free text ask s (part a) h = calm-free text ask s a h
-calm-free text ask s (thrice c) h = absurd (false-true h)
+calm-free text ask s (scope a) h = calm-free text ask s a h
+calm-free text ask s (thrice c) h = absurd (false≢true h)
 
 -- in whole mode every rule is calm
 pub calm-whole : (text : List ℕ) (ask : Test → Bool) (s : Parse) (r : Rule) → s .mode ≡ Whole → Calm text ask s r
@@ -244,7 +245,7 @@ calm-whole text ask s (mark f) w = tt
 calm-whole text ask s (seq a b) w = (calm-whole text ask s a w, calm-whole text ask s b w)
 calm-whole text ask s (choose p a b) w = ((λ e. calm-whole text ask s a w), (λ e. calm-whole text ask s b w))
 calm-whole text ask s (while p a) w = calm-whole text ask s a w
-calm-whole text ask s (part a) w = calm-whole text ask s a w
+calm-whole text ask s (scope a) w = calm-whole text ask s a w
 calm-whole text ask s (thrice c) w = λ m. retried-whole (thriceOf text c (marked text m s)) (thrice-mode text c (marked text m s) ∙ w)
   where
     retried-whole : (q : Parse) → q .mode ≡ Whole → retriedOf q ≡ q
@@ -252,7 +253,7 @@ calm-whole text ask s (thrice c) w = λ m. retried-whole (thriceOf text c (marke
 
 run-thrice : (c : Shape) (text : List ℕ) (s : Parse) → going s ≡ true → run (thrice c) text s ≡ retriedOf (thriceOf text c s)
 unfolding run
-run-thrice c text s g = if-intro (λ q. q ≡ retriedOf (thriceOf text c s)) (going s) _ _ (λ h. refl) (λ h. absurd (false-true (sym h ∙ g)))
+run-thrice c text s g = if-intro (λ q. q ≡ retriedOf (thriceOf text c s)) (going s) _ _ (λ h. refl) (λ h. absurd (false≢true (sym h ∙ g)))
 
 thrice-takes : (c : Shape) (text : List ℕ) (s : Parse) → going s ≡ true → thriceOf text c s ≡ run (seq (take c) (take c)) text (pushOf text c s)
 unfolding run thriceOf
@@ -272,7 +273,7 @@ behind text (mark f) P i = P i
 behind text (seq a b) P i = Inside text i
 behind text (choose p a b) P i = Inside text i
 behind text (while p a) P i = Inside text i
-behind text (part a) P i = Inside text i
+behind text (scope a) P i = Inside text i
 behind text (thrice c) P i = Inside text i
 
 behind-in : (text : List ℕ) (a : Rule) (P : ℕ → Type 0) (i : ℕ) → Inside text i → P i → behind text a P i
@@ -284,7 +285,7 @@ behind-in text (mark f) P i h p = p
 behind-in text (seq a b) P i h p = h
 behind-in text (choose q a b) P i h p = h
 behind-in text (while q a) P i h p = h
-behind-in text (part a) P i h p = h
+behind-in text (scope a) P i h p = h
 behind-in text (thrice c) P i h p = h
 
 -- where P holds of the place the tests on the way are answered rightly, and the classes are those of the sample token; each loop's body moves
@@ -298,7 +299,7 @@ module _ (text : List ℕ) (answer : ℕ → Test → Bool) (sample : ℕ → �
   Fine P (seq a b) = Fine P a × Fine (behind text a P) b
   Fine P (choose p a b) = ((i : ℕ) → P i → answer i p ≡ p text i) × (Fine (λ i. P i × (p text i ≡ true)) a × Fine (λ i. P i × (p text i ≡ false)) b)
   Fine P (while p a) = ((i : ℕ) → Inside text i → answer i p ≡ p text i) × ((moves a ≡ true) × Fine (λ i. Inside text i × (p text i ≡ true)) a)
-  Fine P (part a) = Fine P a
+  Fine P (scope a) = Fine P a
   Fine P (thrice c) = Unit {0}
 
   holds-here : (p : Test) (s : Parse) (b : Bool) → going s ≡ true → p text (s .at) ≡ b → holds text p s ≡ b
@@ -327,7 +328,7 @@ module _ (text : List ℕ) (answer : ℕ → Test → Bool) (sample : ℕ → �
       (first-run (λ j. Inside text j × (p text j ≡ true)) a s g i (i, t) k (f .1 .1))))
       (λ e. let t : p text (s .at) ≡ false = sym (f .0 (s .at) i) ∙ e in
       rw (e, run-stays p a text s (holds-here p s false g t)) refl)
-  first-run P (part a) s g i h k f = rw (run-part a text s g) (inner-claim text s (run a text s) (first (answer (s .at)) a) g (first-run P a s g i h k f))
+  first-run P (scope a) s g i h k f = rw (run-scope a text s g) (inner-claim text s (run a text s) (first (answer (s .at)) a) g (first-run P a s g i h k f))
   first-run P (thrice c) s g i h k f = run-thrice c text s g ∙ k none ∙ thrice-takes c text s g
 
   -- the class at this place is the sample's, and the rule that is left is fine everywhere
@@ -347,7 +348,7 @@ module _ (text : List ℕ) (answer : ℕ → Test → Bool) (sample : ℕ → �
   fine-join (seq a c) b f h = (f, h)
   fine-join (choose p a c) b f h = (f, h)
   fine-join (while p a) b f h = (f, h)
-  fine-join (part a) b f h = (f, h)
+  fine-join (scope a) b f h = (f, h)
   fine-join (thrice c) b f h = (f, h)
 
   fine-close : (a : Rule) → Fine (Inside text) a → Fine (Inside text) (close a)
@@ -360,7 +361,7 @@ module _ (text : List ℕ) (answer : ℕ → Test → Bool) (sample : ℕ → �
   fine-close (seq a c) f = f
   fine-close (choose p a c) f = f
   fine-close (while p a) f = f
-  fine-close (part a) f = f
+  fine-close (scope a) f = f
   fine-close (thrice c) f = f
 
   fine-before : (i : ℕ) (m : Marks) (y : Res) → FineRes i y → FineRes i (before m y)
@@ -398,7 +399,7 @@ module _ (text : List ℕ) (answer : ℕ → Test → Bool) (sample : ℕ → �
   behind-acts P ask (seq a c) b f x = f
   behind-acts P ask (choose p a c) b f x = f
   behind-acts P ask (while p a) b f x = f
-  behind-acts P ask (part a) b f x = f
+  behind-acts P ask (scope a) b f x = f
   behind-acts P ask (thrice c) b f x = f
 
   pub fine-first : (P : ℕ → Type 0) (i : ℕ) → Inside text i → P i → (r : Rule) → Fine P r → FineRes i (first (answer i) r)
@@ -416,5 +417,5 @@ module _ (text : List ℕ) (answer : ℕ → Test → Bool) (sample : ℕ → �
   fine-first P i n h (while p a) f = if-intro (FineRes i) (answer i p) _ _
       (λ e. fine-chain i (first (answer i) a) (pass none) (while p a) (fine-first (λ j. Inside text j × (p text j ≡ true)) i n (n, sym (f .0 i n) ∙ e) a (f .1 .1)) tt (λ x. f))
       (λ e. tt)
-  fine-first P i n h (part a) f = fine-inner i (first (answer i) a) (fine-first P i n h a f)
+  fine-first P i n h (scope a) f = fine-inner i (first (answer i) a) (fine-first P i n h a f)
   fine-first P i n h (thrice c) f = (refl, ((λ j m. refl), (λ j m. refl)))

@@ -8,10 +8,11 @@ use native.Mathlib.Omega.{arith}
 use lib.Dec.{ltb}
 use lib.ListN.{length, set, getD}
 use borrow.Author.Tests.{ltb-false}
+use Rattle.basics.proofs.Tests.{if-intro}
 use Rattle.parse.specs.declared.Parse.{Parse}
 use Rattle.parse.specs.State.{tokenAt, nothing, notedMore, going, withCells, loop, putOf, notedOf, movedOf, onJoiner, hop, stepOf, pushOf, noteOf}
 use Rattle.parse.specs.Rule.{Rule, run}
-use Rattle.parse.proofs.Loop.{if-intro, loop-stays}
+use Rattle.parse.proofs.Loop.{loop-stays}
 use Rattle.parse.proofs.Runs.{run-still}
 use Rattle.residual.proofs.Residual.{Act, put, noted, does}
 

@@ -1,7 +1,7 @@
 -- The loops over a table, as their code has them: what each turn keeps, and that they end. Assumes nothing.
 use Prim.Native.Nat.{ℕ, zero, suc, _+_, _-_, _*_, _/_, _%_, _<_, _≤_}
 use mathlib.Core.Path.{_≡_, refl, sym, _∙_, ap, subst}
-use mathlib.Core.Bool.{Bool, true, false, cond}
+use mathlib.Core.Bool.{Bool, true, false, cond, false≢true}
 use mathlib.Core.List.{List}
 use native.Mathlib.Omega.{arith}
 use lib.Dec.{eqb, ltb}
@@ -9,6 +9,7 @@ use lib.ListN.{length, getD, set, length-set}
 use denote.Ref.{RefT, now}
 use denote.Triple.Both.{Both}
 use borrow.Author.Tests.{lt-ltb, eq-eqb, ne-eqb, ltb-true, ltb-false, eqb-true, eqb-false}
+use Rattle.basics.proofs.Tests.{by-test, both-of}
 use Rattle.classes.specs.Shape.{shapeCode}
 use Rattle.classes.specs.declared.Mode.{Mode}
 use Rattle.classes.specs.declared.Mode.the-variants.{Crate, Whole}
@@ -17,17 +18,16 @@ use Rattle.records.specs.declared.Parser.{Parser}
 use Rattle.records.specs.declared.Parser.the-variants.{Simple, Myanmar, Complex, Khmer}
 use Rattle.parse.specs.State.{tokenAt, filledAt}
 use Rattle.parse.specs.Rule.{Rule, skip}
-use Rattle.parse.proofs.Loop.{false-true, by-test, both}
 use Rattle.tables.specs.Symbols.{indexOf, rowsOf, tableOf, cellAt, Regular}
 use Rattle.tables.proofs.Cells.{shapeAt, code-at, okay}
 use Rattle.segment.specs.Calls.{joins}
-use Rattle.segment.specs.Runs.{Roomy}
+use Rattle.segment.specs.Inner.{Roomy}
 use Rattle.segment.specs.Standing.{Running}
 use Rattle.segment.specs.Going.{started, goesOn, doneBy, givenUp, stopOf, backOf, refilled, overed, noted, written, turned, putBy, Wrote, Writable}
 use Rattle.segment.specs.declared.going.Going.{Going}
 use Rattle.segment.specs.declared.going.Stand.{Stand}
-use Rattle.segment.proofs.Turns.{run-starts}
-use Rattle.segment.proofs.Turn.{Next, Put, After}
+use Rattle.segment.proofs.CallTurns.{run-starts}
+use Rattle.segment.proofs.TableTurn.{Next, Put, After}
 use Rattle.segment.proofs.TableLaws.{answerOf, sampleOf, rulesOf, decoded, okay-class, okay-row, okay-inside, Stands, turns, turn-okay}
 
 rows-some : (parser : Parser) → 0 < rowsOf parser
@@ -129,7 +129,7 @@ module _ (parser : Parser) (mode : Mode) (text scalars₀ classes₀ clusters₀
     ended : goesOn g (length text) ≡ false → R scalars classes clusters (g .at) (g .clusters) (g .characters)
     ended e =
         by-test (eqb (g .characters) (g .stop))
-        (λ z. absurd (false-true (sym e ∙ ap (λ b. cond b true (ltb (g .at) (length text))) z)))
+        (λ z. absurd (false≢true (sym e ∙ ap (λ b. cond b true (ltb (g .at) (length text))) z)))
         (λ z. at-end (g .row) scalars classes clusters (g .at) (g .clusters) (g .stop) (g .characters)
         (ltb-false (g .at) (length text) (ap (λ b. cond b true (ltb (g .at) (length text))) (sym z) ∙ e))
         (w .stands (eqb-false (g .characters) (g .stop) z)))
@@ -173,7 +173,7 @@ module _ (parser : Parser) (mode : Mode) (text scalars₀ classes₀ clusters₀
 
       -- the table gives the cluster up
       pub goes-leave : (s : Stand) (b : Bool) → b ≡ givenUp v (g .row) → b ≡ true → s ≡ standing g → R scalars classes clusters (s .at) (s .clusters) (s .characters)
-      goes-leave s b eb t e = subst (λ (s : Stand). R scalars classes clusters (s .at) (s .clusters) (s .characters)) (sym e) (leaves (eqb-true (doneBy v) 3 (both (eqb (doneBy v) 3) _ (sym eb ∙ t) .0)))
+      goes-leave s b eb t e = subst (λ (s : Stand). R scalars classes clusters (s .at) (s .clusters) (s .characters)) (sym e) (leaves (eqb-true (doneBy v) 3 (both-of (eqb (doneBy v) 3) _ (sym eb ∙ t) .0)))
 
       overs : doneBy v ≡ 3 → Goes (overed g) scalars classes clusters
       overs z = let b = leaves z in record {

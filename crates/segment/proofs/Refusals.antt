@@ -1,4 +1,4 @@
--- The refusals of the stepping call and of the full run: each says what document 01's table says, the check's lines and its own.
+-- The refusals of the stepping call and of the full run: each says what the table of SCOPE 5.1 says, the check's lines and its own.
 -- Assumes nothing.
 use Prim.Native.Nat.{ℕ, _≤_}
 use mathlib.Core.Path.{_≡_, refl, sym, _∙_, ap}
@@ -16,28 +16,28 @@ use Rattle.records.specs.declared.Verdict.{Verdict}
 use Rattle.records.specs.declared.Verdict.the-variants.{Accepted, Refused}
 use Rattle.records.proofs.Tables.{firstLine}
 use Rattle.records.proofs.Judged.{alone, call-by-table}
-use Rattle.tokens.specs.Tokens.{streamOf}
+use Rattle.stream.specs.Stream.{streamOf}
 use Rattle.parse.specs.declared.Parse.{Parse}
 use Rattle.segment.specs.declared.Segmenter.{Segmenter}
 use Rattle.segment.specs.declared.RunAnswer.{RunAnswer}
-use Rattle.segment.specs.Calls.{refusal, end, found, nextOf}
+use Rattle.segment.specs.Calls.{refused, end, found, nextOf}
 use Rattle.segment.specs.Met.{refusalIn, Met, placeLine, roomLine}
 use Rattle.segment.specs.Runs.{callsOf, shortest, roomFor, runVerdict, runUnder, RanOf}
-use Rattle.segment.proofs.Laws.{tokens, next-case}
+use Rattle.segment.proofs.Coverage.{tokens, next-case}
 
 -- # The stepping call
 
 module _ (s : Segmenter) (t : Text) where
   -- What it met, and the answer that goes with it.
   pub step-met : Met s (tokens s t) (nextOf s t) ((nextOf s t) .what)
-  unfolding refusal end found
-  step-met = next-case s t (λ a. Met s (tokens s t) a (a .what)) (λ n d i e. refl) (λ e l. refl) (λ e l. (l, refl)) (λ e l. (l, refl))
+  unfolding refused end found
+  step-met = next-case s t (λ a. Met s (tokens s t) a (a .what)) (λ r e. refl) (λ e l. refl) (λ e l. (l, refl)) (λ e l. (l, refl))
 
   -- the check's verdict, then 8
   met-verdict : refusalIn ((nextOf s t) .what) ≡ verdict (s .parser) t ⊳ firstLine (placeLine s t ∷ []) Neither 0
-  unfolding refusal end found
+  unfolding refused end found
   met-verdict = next-case s t (λ a. refusalIn (a .what) ≡ verdict (s .parser) t ⊳ firstLine (placeLine s t ∷ []) Neither 0)
-      (λ n d i e. rw e)
+      (λ r e. rw e)
       (λ e l. rw (e, lt-ltb (length (tokens s t)) (s .place .at) l))
       (λ e l. let h : s .place .at ≤ length (tokens s t) = omega arith in rw (e, le-ltb (length (tokens s t)) (s .place .at) h))
       (λ e l. let h : s .place .at ≤ length (tokens s t) = omega arith in rw (e, le-ltb (length (tokens s t)) (s .place .at) h))
@@ -52,7 +52,7 @@ module _ (s : Segmenter) (t : Text) where
 
 under-verdict : (v : Verdict) (calls : List Parse) → (runUnder v calls) .verdict ≡ v
 under-verdict Accepted calls = refl
-under-verdict (Refused number side index) calls = refl
+under-verdict (Refused r) calls = refl
 
 module _ (parser : Parser) (mode : Mode) (t : Text) (scalars classes clusters : List ℕ) (r : RunAnswer) (scalars′ classes′ clusters′ : List ℕ) (ran : RanOf parser mode t scalars classes clusters r scalars′ classes′ clusters′) where
   abbrev room : ℕ

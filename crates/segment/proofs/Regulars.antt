@@ -7,18 +7,18 @@ use native.Mathlib.Omega.{arith}
 use lib.Dec.{eqb, ltb}
 use lib.ListN.{length, getD, List·getD-eq-default}
 use borrow.Author.Tests.{lt-ltb, eq-eqb, eqb-true, ltb-true, ltb-false}
+use Rattle.basics.proofs.Tests.{by-test}
+use Rattle.basics.specs.Sets.{any}
 use Rattle.classes.specs.declared.Mode.{Mode}
 use Rattle.token.proofs.Fields.{Says}
 use Rattle.records.specs.Text.{Text, Parts, cell, recordLengths}
-use Rattle.records.specs.Refusals.{any}
 use Rattle.records.specs.Sound.{Sound}
 use Rattle.records.specs.declared.Parser.{Parser}
 use Rattle.records.specs.declared.Parser.the-variants.{Simple, Myanmar, Complex, Khmer}
 use Rattle.records.proofs.Passing.{not-so}
-use Rattle.tokens.specs.Tokens.{Source, Splits, sourceOf, splitsOf, itself, split, gather, streamOf}
-use Rattle.tokens.proofs.Accepted.{small, own-says}
+use Rattle.stream.specs.Stream.{Source, Splits, sourceOf, splitsOf, itself, split, gather, streamOf}
+use Rattle.stream.proofs.Accepted.{small, own-says}
 use Rattle.parse.specs.State.{tokenAt}
-use Rattle.parse.proofs.Loop.{by-test}
 use Rattle.tables.specs.Symbols.{Regular, simpleRegular, myanmarRegular, useRegular}
 use Rattle.segment.specs.Seen.{seenIn, seenBy, kindsOf, emojisOf, EvenBy, Direct, useParser, Single, AllMyanmar, AllUse}
 use Rattle.segment.proofs.Reading.{seen-length, token-own}

@@ -2,12 +2,13 @@
 -- the cluster without the repeat is exactly the tokens that the call passed. Assumes nothing.
 use Prim.Native.Nat.{ℕ, _-_, _<_, _≤_}
 use mathlib.Core.Path.{_≡_, refl, sym, _∙_, ap}
-use mathlib.Core.Bool.{Bool, true, false, cond}
+use mathlib.Core.Bool.{Bool, true, false, cond, false≢true}
 use mathlib.Core.List.{List}
 use native.Mathlib.Omega.{arith}
 use lib.Dec.{eqb}
 use lib.ListN.{length, getD}
 use borrow.Author.Tests.{eqb-true, eqb-false}
+use Rattle.basics.proofs.Tests.{if-intro, by-test}
 use Rattle.classes.specs.declared.Mode.{Mode}
 use Rattle.classes.specs.declared.Mode.the-variants.{Crate, Whole}
 use Rattle.records.specs.declared.Parser.{Parser}
@@ -17,7 +18,6 @@ use Rattle.parse.specs.State.{tokenAt, begin, placeOf, clusterOf, nothing}
 use Rattle.parse.specs.declared.Flow.{Flow}
 use Rattle.parse.specs.declared.Flow.the-variants.{GoOn, Stop, Full, End}
 use Rattle.parse.specs.Cover.{Covers, pushed, Repeating, repeatsOf, repeats}
-use Rattle.parse.proofs.Loop.{false-true, if-intro, by-test}
 use Rattle.parse.proofs.Keeps.{run-mode}
 use Rattle.parse.proofs.Free.{run-again}
 use Rattle.parse.proofs.Agree.{notFull, fine}
@@ -30,9 +30,9 @@ use Rattle.tables.proofs.ComplexRules as cx
 use Rattle.tables.proofs.KhmerRules as kh
 use Rattle.segment.specs.Calls.{grammar, joins, called}
 use Rattle.segment.specs.Repeats.{repeatB, repeated, unrepeated}
-use Rattle.segment.proofs.Turns.{call-repeats}
+use Rattle.segment.proofs.CallTurns.{call-repeats}
 
--- a grammar without a kinzi reads no token again; Myanmar's does where document 01 says
+-- a grammar without a kinzi reads no token again; Myanmar's does where SCOPE 6.8 says
 call-again : (parser : Parser) (mode : Mode) (stream : List ℕ) (at : ℕ) → (called parser mode stream at) .again ≡ inCrate mode (repeatB parser stream at)
 unfolding called grammar
 call-again Simple mode stream at = run-again stream Simple-rules.cluster (begin (record { at = at }) mode false) simple.cluster-free ∙ sym (crate-none mode)
@@ -47,16 +47,16 @@ called-mode parser mode stream at = run-mode (grammar parser) stream (begin (rec
 -- and then its last character is the repeat, with no note behind it
 call-bare : (parser : Parser) (stream : List ℕ) (at : ℕ) → at < length stream → repeatB parser stream at ≡ true → (repeats (called parser Crate stream at) ≡ 1) × ((getD ((called parser Crate stream at) .chars) ((called parser Crate stream at) .len - 1) nothing) .noted ≡ 0)
 unfolding called grammar
-call-bare Simple stream at inside b = absurd (false-true b)
+call-bare Simple stream at inside b = absurd (false≢true b)
 call-bare Myanmar stream at inside b = again-repeats stream at Crate inside (again-is stream at Crate ∙ b)
-call-bare Complex stream at inside b = absurd (false-true b)
-call-bare Khmer stream at inside b = absurd (false-true b)
+call-bare Complex stream at inside b = absurd (false≢true b)
+call-bare Khmer stream at inside b = absurd (false≢true b)
 
 module _ (parser : Parser) (stream : List ℕ) (short : length stream ≤ 65535) (at : ℕ) (inside : at < length stream) where
   abbrev inMode : Mode → Parse
   inMode mode = called parser mode stream at
 
-  -- Repeat (b): "the last token is pushed again in the same cluster, and the next place is the end".
+  -- Repeat (b): the last token is taken once more, and the call hands back the end (SCOPE 6.8).
   pub call-b : repeatB parser stream at ≡ true → (placeOf stream (inMode Crate) ≡ length stream) × Repeating stream at (clusterOf (inMode Crate)) (length stream) (tokenAt stream (length stream - 1))
   unfolding called
   call-b b = let k = call-bare parser stream at inside b in
@@ -70,7 +70,7 @@ module _ (parser : Parser) (stream : List ℕ) (short : length stream ≤ 65535)
   unfolding called
   twice b e = repeat-a stream short (grammar parser) (record { at = at }) Crate (joins parser) inside e (call-again parser Crate stream at ∙ b)
 
-  -- Repeat (a): "if a cluster has 32 and another follows, the other begins with the same token".
+  -- Repeat (a): the cluster after one of 32 begins with the token that was pushed last (SCOPE 6.7).
   pub call-a : repeatB parser stream at ≡ false → (inMode Crate) .len ≡ 32 → (placeOf stream (inMode Crate) < length stream) × Repeating stream at (clusterOf (inMode Crate)) (placeOf stream (inMode Crate)) (tokenAt stream (placeOf stream (inMode Crate)))
   call-a b l = let k = twice b (full l) in (k .1, k .2)
 

@@ -9,10 +9,11 @@ use Rattle.records.specs.Text.{Text}
 use Rattle.records.specs.Sound.{Sound}
 use Rattle.records.specs.declared.Parser.{Parser}
 use Rattle.records.specs.declared.Verdict.the-variants.{Accepted}
-use Rattle.tokens.specs.Tokens.{streamOf}
+use Rattle.stream.specs.Stream.{streamOf, mostTokens}
 use Rattle.parse.specs.declared.Parse.{Parse}
 use Rattle.parse.specs.declared.Pushed.{Pushed}
-use Rattle.segment.specs.Runs.{callsAt, callsOf, characters, Ran, Roomy}
+use Rattle.segment.specs.Runs.{callsAt, callsOf, characters, Ran}
+use Rattle.segment.specs.Inner.{Roomy}
 use Rattle.segment.specs.Seen.{seenBy, Direct}
 use Rattle.segment.specs.Standing.{Column, Running, Stood, Ready}
 use Rattle.segment.specs.declared.RunAnswer.{RunAnswer}
@@ -52,7 +53,7 @@ still-roomy parser mode stream s c n t w = record {
 }
 
 -- the room that was looked at
-pub room-made : (stream os oc on : List ℕ) (n room inner : ℕ) → length stream ≤ 12288 → n ≡ length stream → inner ≡ min (length oc) (length on) → room ≡ min (length os) inner → 2 * n ≤ room → Roomy stream os oc on
+pub room-made : (stream os oc on : List ℕ) (n room inner : ℕ) → length stream ≤ mostTokens → n ≡ length stream → inner ≡ min (length oc) (length on) → room ≡ min (length os) inner → 2 * n ≤ room → Roomy stream os oc on
 room-made stream os oc on n room inner short e ei er h = record {
   short = short;
   scalar = omega arith;

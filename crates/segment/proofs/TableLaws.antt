@@ -7,6 +7,7 @@ use native.Mathlib.Omega.{arith}
 use lib.Dec.{eqb, ltb}
 use lib.ListN.{length, getD}
 use borrow.Author.Tests.{lt-ltb, ne-eqb, ltb-true}
+use Rattle.basics.proofs.Tests.{by-test, both-of}
 use Rattle.classes.specs.Scalar.{CGJ}
 use Rattle.classes.specs.declared.Mode.{Mode}
 use Rattle.classes.specs.declared.Shape.the-variants.{Other}
@@ -16,10 +17,9 @@ use Rattle.records.specs.declared.Parser.the-variants.{Simple, Myanmar, Complex
 use Rattle.parse.specs.declared.Parse.{Parse}
 use Rattle.parse.specs.State.{tokenAt, begin}
 use Rattle.parse.specs.Rule.{Rule, Test, skip}
-use Rattle.parse.proofs.Loop.{by-test, both}
 use Rattle.simple.specs.Grammar as Simple-rules
 use Rattle.segment.specs.Calls.{grammar, joins}
-use Rattle.segment.specs.Runs.{Roomy}
+use Rattle.segment.specs.Inner.{Roomy}
 use Rattle.tables.specs.Symbols.{indexOf, rowsOf, tableOf, cellAt, simpleSymbol, myanmarSymbol, emojiSymbol, useSymbol, useIndex, useRegular, Regular}
 use Rattle.tables.specs.SimpleTable.{simpleTable}
 use Rattle.tables.specs.MyanmarTable.{myanmarTable}
@@ -28,13 +28,13 @@ use Rattle.tables.specs.KhmerTable.{khmerTable}
 use Rattle.complex.specs.Grammar as Complex-rules
 use Rattle.residual.proofs.Residual.{first, Fine, Inside, Calm, calm-free}
 use Rattle.tables.proofs.Pairs.{pair-law}
-use Rattle.segment.proofs.Turn.{joiner, Between, Next, After, start-turn, joiner-turn, under-turn}
+use Rattle.segment.proofs.TableTurn.{joiner, Between, Next, After, start-turn, joiner-turn, under-turn}
 use Rattle.tables.proofs.Cells.{Cell, over, sets-as, cellOf, fresh, orFresh, decodedBy, okay}
 use Rattle.tables.proofs.SimpleRules as simple
 use Rattle.tables.proofs.SimpleFine as simple-fine
 use Rattle.tables.proofs.MyanmarRules as my
 use Rattle.tables.proofs.MyanmarFine as my-fine
-use Rattle.tables.proofs.MyanmarCalm.{calm-myanmar}
+use Rattle.tables.proofs.MyanmarEnd.{calm-myanmar}
 use Rattle.tables.proofs.ComplexRules as cx
 use Rattle.tables.proofs.KhmerRules as kh
 use Rattle.tables.proofs.UseFine as use-fine
@@ -195,13 +195,13 @@ calm-within Khmer mode text r s e = calm-free text _ s (getD kh.rules r skip) (k
 
 -- the parts of a good cell
 pub okay-class : (rows v : ℕ) → true ≡ okay rows v → v % 16 < 15
-okay-class rows v h = ltb-true (v % 16) 15 (both (ltb (v % 16) 15) _ (sym h) .0)
+okay-class rows v h = ltb-true (v % 16) 15 (both-of (ltb (v % 16) 15) _ (sym h) .0)
 
 pub okay-row : (rows v : ℕ) → true ≡ okay rows v → v / 64 < rows
-okay-row rows v h = ltb-true (v / 64) rows (both (ltb (v / 64) rows) _ (both (ltb (v % 16) 15) _ (sym h) .1) .0)
+okay-row rows v h = ltb-true (v / 64) rows (both-of (ltb (v / 64) rows) _ (both-of (ltb (v % 16) 15) _ (sym h) .1) .0)
 
 pub okay-inside : (rows v : ℕ) → true ≡ okay rows v → (v / 16 % 4 ≡ 3 → ⊥) → 0 < v / 64
-okay-inside rows v h n = ltb-true 0 (v / 64) (rw (ne-eqb (v / 16 % 4) 3 n) at (both (ltb (v / 64) rows) _ (both (ltb (v % 16) 15) _ (sym h) .1) .1))
+okay-inside rows v h n = ltb-true 0 (v / 64) (rw (ne-eqb (v / 16 % 4) 3 n) at (both-of (ltb (v / 64) rows) _ (both-of (ltb (v % 16) 15) _ (sym h) .1) .1))
 
 -- the cell that the loop looks up
 cell-between : (j : Bool) (table : List ℕ) (x index : ℕ) → cellAt j table x index 0 ≡ getD table index 0

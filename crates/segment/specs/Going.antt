@@ -1,4 +1,4 @@
--- A run by a table under way, on numbers: what one cell makes of it. No contract of the public face cites what is here.
+-- What only private contracts need. A run by a table under way, on numbers: what one cell makes of it.
 use Prim.Native.Nat.{ℕ, _+_, _-_, _/_, _%_, _<_, _≤_}
 use mathlib.Core.Path.{_≡_}
 use mathlib.Core.Bool.{Bool, true, false, cond}

@@ -1,5 +1,5 @@
--- What demand 3 says of the answers of the stepping calls, in what a caller sees: the place, the passed count and the cluster. "A token
--- is repeated at the two places document 01 names, there once, and nowhere else."
+-- What demand 3 says of the answers of the stepping calls, in what a caller sees: the place, the passed count and the cluster. A token
+-- is repeated "at two named places alone" (SCOPE 1.2), which are repeat (a) and repeat (b) (6.7, 6.8), and there once.
 use Prim.Native.Nat.{ℕ, zero, suc, _+_}
 use mathlib.Core.Bool.{Bool, true, false, cond}
 use mathlib.Core.List.{List, [], _∷_, _++_, map}
@@ -16,7 +16,7 @@ use Rattle.myanmar.specs.Repeat as Myanmar-repeat
 use Rattle.segment.specs.declared.Segmenter.{Segmenter}
 use Rattle.segment.specs.declared.Answer.{Answer}
 use Rattle.segment.specs.declared.What.{What}
-use Rattle.segment.specs.declared.What.the-variants.{Found, Over, Bad}
+use Rattle.segment.specs.declared.What.the-variants.{Found, Over, Refused}
 use Rattle.segment.specs.Calls.{nextOf}
 
 -- Repeat (b): of the four parsers Myanmar alone has it, at a kinzi behind which the text ends.
@@ -26,7 +26,7 @@ repeatB Myanmar stream at = Myanmar-repeat.repeatB stream at
 repeatB Complex stream at = false
 repeatB Khmer stream at = false
 
--- Whether a call from a place repeats a token: in crate mode by repeat (b), or by repeat (a), with "a cluster of 32"; in whole mode never.
+-- Whether a call from a place repeats a token: in crate mode by repeat (b), or by repeat (a), at 32 characters; in whole mode never.
 abbrev pub repeated : Mode → Parser → List ℕ → ℕ → Cluster → Bool
 repeated Whole parser stream at c = false
 repeated Crate parser stream at c = cond (repeatB parser stream at) true (eqb (c .len) 32)
@@ -39,7 +39,7 @@ unrepeated mode parser stream at c = cond (repeated mode parser stream at c) (bu
 abbrev pub whenFound : What → List Answer → List Answer
 whenFound Found later = later
 whenFound Over later = []
-whenFound (Bad number side index) later = []
+whenFound (Refused r) later = []
 
 -- the answers of the stepping calls from a state on, each from the state that the one before handed back, up to the first that finds no
 -- cluster; n at most

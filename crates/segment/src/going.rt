@@ -66,7 +66,7 @@ fn stop_of(what: usize, o: usize, stop: usize) -> usize
     if what == 1 { o + 32 } else { stop }
 }
 
-// The place of a full cluster, seen from the one after its last token: in crate mode "a step onto a cluster of 32 does not move".
+// The place behind a full cluster, seen from the one after its last token: in crate mode that token stays current (SCOPE 6.7).
 fn back(mode: Mode, i: usize) -> usize
     requires { ⌜ 1 ≤ i ⌝ }
     ensures { λ r. ⌜ r ≡ backOf mode i ⌝ }

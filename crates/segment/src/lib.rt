@@ -11,7 +11,7 @@ use classes::Mode;
 use parse::Cluster;
 use parse::Place;
 use records::Parser;
-use records::Side;
+use records::Refusal;
 use records::Verdict;
 use records::check_in;
 use runs::run_accepted;
@@ -19,6 +19,7 @@ ghost use mathlib.Core.Path.{_≡_};
 ghost use Rattle.records.specs.Text.{textOf, lent};
 ghost use Rattle.parse.specs.State.{startPlace};
 ghost use Rattle.segment.specs.Calls.{nextOf};
+ghost use Rattle.segment.specs.Met.{whatCode, refusalIn};
 ghost use Rattle.segment.specs.Runs.{RanOf};
 
 // A parser over a text: which one, in which mode, and where it stands.
@@ -32,11 +33,31 @@ pub struct Segmenter {
 pub enum What {
     Found,
     Over,
-    Bad {
-        number: u8,
-        side: Side,
-        index: usize,
-    },
+    Refused(Refusal),
+}
+
+impl What {
+    // The number that a stepping call tells for what it met.
+    pub fn code(self) -> u8
+        ensures { λ r. ⌜ r ≡ whatCode self ⌝ }
+    {
+        match self {
+            What::Found => 0,
+            What::Over => 1,
+            What::Refused(_) => 2,
+        }
+    }
+
+    // The refusal alone.
+    pub fn verdict(self) -> Verdict
+        ensures { λ r. ⌜ r ≡ refusalIn self ⌝ }
+    {
+        match self {
+            What::Found => Verdict::Accepted,
+            What::Over => Verdict::Accepted,
+            What::Refused(refusal) => Verdict::Refused(refusal),
+        }
+    }
 }
 
 // The next state, how many tokens the call passed, what it met, and the cluster.
@@ -76,15 +97,10 @@ impl Segmenter {
     {
         let parser = self.parser;
         let verdict = check_in(parser, wides, bytes, firsts);
-        let Verdict::Refused {
-            number,
-            side,
-            index,
-        } = verdict
-        else {
+        let Verdict::Refused(refusal) = verdict else {
             return self.next_accepted(wides, bytes, firsts);
         };
-        self.refusal(number, side, index)
+        self.refused(refusal)
     }
 
     // The same over the columns one by one.
@@ -147,12 +163,7 @@ pub fn run_in<'s, 'a>(
     ensures { λ r. ⌜ RanOf parser mode (lent (wides .entry) (bytes .entry) (firsts .entry)) (now (oscalars .entry)) (now (oclasses .entry)) (now (oclusters .entry)) r (now (oscalars .exit)) (now (oclasses .exit)) (now (oclusters .exit)) ⌝ }
 {
     let verdict = check_in(parser, wides, bytes, firsts);
-    let Verdict::Refused {
-        number,
-        side,
-        index,
-    } = verdict
-    else {
+    let Verdict::Refused(refusal) = verdict else {
         return run_accepted(
             parser,
             mode,
@@ -164,7 +175,7 @@ pub fn run_in<'s, 'a>(
             oclusters,
         );
     };
-    RunAnswer::refused(number, side, index)
+    RunAnswer::refused(refusal)
 }
 
 // The same over the columns one by one.

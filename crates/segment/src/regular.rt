@@ -2,9 +2,9 @@
 use classes::Mode;
 use records::Parser;
 use records::cells::joined;
+use stream::is_split_sign;
 use tables::is_regular_myanmar;
 use tables::is_regular_use;
-use tokens::is_split_sign;
 ghost use mathlib.Core.Path.{_≡_};
 ghost use mathlib.Core.Bool.{true};
 ghost use lib.ListN.{length};

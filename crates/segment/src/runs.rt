@@ -9,38 +9,32 @@ use crate::streams::SHORT;
 use crate::streams::count_of;
 use crate::streams::tokens_of;
 use crate::tabled::tabled;
+use basics::shorter;
 use classes::Mode;
 use parse::Parse;
 use records::Parser;
+use records::Refusal;
 use records::Side;
 use records::Verdict;
 use records::cells::record_count;
+use stream::MOST_TOKENS;
 ghost use mathlib.Core.Path.{_≡_};
-ghost use Prim.Native.Nat.{_≤_, min};
+ghost use Prim.Native.Nat.{_≤_};
 ghost use lib.ListN.{length};
 ghost use Rattle.records.specs.Text.{lent};
 ghost use Rattle.records.specs.Sound.{Sound};
 ghost use Rattle.records.specs.declared.Verdict.the-variants.{Accepted, Refused};
-ghost use Rattle.tokens.specs.Tokens.{streamOf};
-ghost use Rattle.segment.specs.Runs.{Fits};
+ghost use Rattle.stream.specs.Stream.{streamOf, mostTokens};
+ghost use Rattle.segment.specs.Inner.{Fits};
 ghost use Rattle.segment.specs.Standing.{Written, Known, RoomyIn, Begun, Stands, Finished, Rests, FinishedIn, RanIn};
 
-fn shorter(a: usize, b: usize) -> usize
-    ensures { λ r. ⌜ r ≡ min a b ⌝ }
-{
-    if a < b { a } else { b }
-}
-
 impl RunAnswer {
-    pub(crate) fn refused(number: u8, side: Side, index: usize) -> RunAnswer
-        ensures { λ r. ⌜ r ≡ record { verdict = Refused number side index; clusters = 0; characters = 0 } ⌝ }
+    // The answer of a run that refuses: nothing is written.
+    pub fn refused(refusal: Refusal) -> RunAnswer
+        ensures { λ r. ⌜ r ≡ record { verdict = Refused refusal; clusters = 0; characters = 0 } ⌝ }
     {
         RunAnswer {
-            verdict: Verdict::Refused {
-                number,
-                side,
-                index,
-            },
+            verdict: Verdict::Refused(refusal),
             clusters: 0,
             characters: 0,
         }
@@ -154,10 +148,10 @@ fn run_long<'s, 'a>(
     oclasses: &mut [u8],
     oclusters: &mut [u16],
 ) -> RunAnswer
-    requires { ⌜ Rests parser mode (lent wides bytes firsts) 12288 oscalars oclasses oclusters from ⌝ }
+    requires { ⌜ Rests parser mode (lent wides bytes firsts) mostTokens oscalars oclasses oclusters from ⌝ }
     ensures { λ r. ⌜ FinishedIn parser mode (lent (wides .entry) (bytes .entry) (firsts .entry)) from oscalars oclasses oclusters r ⌝ }
 {
-    let mut long = [0u64; 12288];
+    let mut long = [0u64; MOST_TOKENS];
     run_within(
         parser,
         mode,
@@ -186,7 +180,7 @@ fn run_middle<'s, 'a>(
     requires { ⌜ Rests parser mode (lent wides bytes firsts) 2048 oscalars oclasses oclusters from ⌝ }
     ensures { λ r. ⌜ FinishedIn parser mode (lent (wides .entry) (bytes .entry) (firsts .entry)) from oscalars oclasses oclusters r ⌝ }
 {
-    let mut middle = [0u64; 2048];
+    let mut middle = [0u64; MIDDLE];
     run_within(
         parser,
         mode,
@@ -216,7 +210,7 @@ fn run_array<'s, 'a>(
     oclasses: &mut [u8],
     oclusters: &mut [u16],
 ) -> RunAnswer
-    requires { ⌜ (n ≤ 12288) × Rests parser mode (lent wides bytes firsts) n oscalars oclasses oclusters from ⌝ }
+    requires { ⌜ (n ≤ mostTokens) × Rests parser mode (lent wides bytes firsts) n oscalars oclasses oclusters from ⌝ }
     ensures { λ r. ⌜ FinishedIn parser mode (lent (wides .entry) (bytes .entry) (firsts .entry)) from oscalars oclasses oclusters r ⌝ }
 {
     if cells < n {
@@ -260,7 +254,7 @@ fn run_array<'s, 'a>(
             oclusters,
         );
     }
-    let mut short = [0u64; 256];
+    let mut short = [0u64; SHORT];
     run_within(
         parser,
         mode,
@@ -341,7 +335,11 @@ pub(crate) fn run_accepted<'s, 'a>(
     let n = token_count(records, parser, mode, wides, bytes, firsts);
     let room = shorter(oscalars.len(), shorter(oclasses.len(), oclusters.len()));
     if room < 2 * n {
-        return RunAnswer::refused(9, Side::Neither, 0);
+        return RunAnswer::refused(Refusal {
+            number: 9,
+            side: Side::Neither,
+            index: 0,
+        });
     }
     let s = begin(
         records,

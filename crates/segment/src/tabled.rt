@@ -12,7 +12,7 @@ use tables::khmer_table::KHMER;
 ghost use mathlib.Core.Path.{_≡_};
 ghost use Rattle.records.specs.declared.Parser.the-variants.{Complex, Khmer};
 ghost use Rattle.tables.specs.Symbols.{tableOf, Regular};
-ghost use Rattle.segment.specs.Runs.{Roomy};
+ghost use Rattle.segment.specs.Inner.{Roomy};
 ghost use Rattle.segment.specs.Seen.{useParser};
 ghost use Rattle.segment.specs.Standing.{Reached, Stands, Onward};
 

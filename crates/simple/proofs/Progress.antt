@@ -1,7 +1,7 @@
 -- Every call of the simple parser before the end passes a token, in both modes and from every place. Assumes nothing.
 use Prim.Native.Nat.{ℕ, _<_, _≤_}
 use mathlib.Core.Path.{_≡_, refl, sym, _∙_}
-use mathlib.Core.Bool.{true, false}
+use mathlib.Core.Bool.{true, false, false≢true}
 use mathlib.Core.List.{List, [], _∷_}
 use mathlib.Core.Logic.{_⊎_, inl, inr, ⊎-elim}
 use lib.ListN.{length}
@@ -13,7 +13,6 @@ use Rattle.parse.specs.declared.Place.{Place}
 use Rattle.parse.specs.State.{going, begin, placeOf}
 use Rattle.parse.specs.Rule.{run, holds, mark, while, take, manyAs, is, isEmoji, oneOf, setBroken}
 use Rattle.parse.specs.Shared.{newline}
-use Rattle.parse.proofs.Loop.{false-true}
 use Rattle.parse.proofs.Runs.{run-seq}
 use Rattle.parse.proofs.Fills.{Some, run-some, quiet-holds, run-fills, while-fills, while-either, choose-case, emojis-some}
 use Rattle.parse.proofs.Conserve.{passes}
@@ -27,7 +26,7 @@ module _ (text : List ℕ) where
   other-ready : (s : Parse) → going s ≡ true → Ready text (run other text s)
   unfolding other
   other-ready s g = choose-case (Ready text) (is RI) _ _ text s
-      (λ h. choose-case (Ready text) (is RI) _ _ text s (λ k. inl (run-fills (take Base) text s refl g)) (λ k. absurd (false-true (sym k ∙ h))))
+      (λ h. choose-case (Ready text) (is RI) _ _ text s (λ k. inl (run-fills (take Base) text s refl g)) (λ k. absurd (false≢true (sym k ∙ h))))
       (λ h. choose-case (Ready text) isExtension _ _ text s
       (λ k. inr (quiet-holds (mark setBroken) text isExtension s refl k))
       (λ k. inl (run-fills _ text s refl g)))

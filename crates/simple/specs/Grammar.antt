@@ -4,7 +4,7 @@ use mathlib.Core.List.{[], _∷_}
 use Rattle.classes.specs.declared.Shape.the-variants.{Base, Mark, Control, Vs, Zwnj, Zwj}
 use Rattle.classes.specs.ClusterBreak.{CN, CR, LF, L, «V», T, LV, LVT, RI, EX, SM, ZWJ, PP}
 use Rattle.classes.specs.Scalar.{ZWNJ}
-use Rattle.parse.specs.Rule.{Rule, Test, skip, mark, choose, while, _▸_, take, acceptAs, manyAs, is, isScalar, isEmoji, isSelector, oneOf, setBroken, setSpaceFromChar, forceNormalize}
+use Rattle.parse.specs.Rule.{Rule, Test, skip, mark, while, _▸_, _⇒_∣_, take, acceptAs, manyAs, is, isScalar, isEmoji, isSelector, oneOf, setBroken, setSpaceFromChar, forceNormalize}
 use Rattle.parse.specs.Shared.{emojis, newline}
 
 -- `parse_extension`, where it answers true
@@ -17,51 +17,56 @@ combining = mark forceNormalize ▸ take Mark
 
 -- `parse_extension`, its arm `EX`
 unfoldable pub extend : Rule
-extend = choose (isScalar ZWNJ) (take Zwnj)
-    (choose isSelector (take Vs)
-    combining)
+extend =
+    isScalar ZWNJ ⇒ take Zwnj
+    ∣ isSelector ⇒ take Vs
+    ∣ combining
 
 -- `parse_extension`
 unfoldable pub extension : Rule
-extension = choose (is EX) extend
-    (choose (is SM) combining
-    (take Zwj))
+extension =
+    is EX ⇒ extend
+    ∣ is SM ⇒ combining
+    ∣ take Zwj
 
 -- the arm `L`; each arm of Hangul takes two at most
 unfoldable pub leading : Rule
-leading = take Base ▸ choose (oneOf (L ∷ «V» ∷ LV ∷ LVT ∷ [])) (take Base) skip
+leading = take Base ▸ (oneOf (L ∷ «V» ∷ LV ∷ LVT ∷ []) ⇒ take Base ∣ skip)
 
 -- the arm `LV | V`
 unfoldable pub vowel : Rule
-vowel = take Base ▸ choose (oneOf («V» ∷ T ∷ [])) (take Base) skip
+vowel = take Base ▸ (oneOf («V» ∷ T ∷ []) ⇒ take Base ∣ skip)
 
 -- the arm `LVT | T`
 unfoldable pub trailing : Rule
 trailing = take Base ▸ acceptAs T Base
 
--- the last three arms: "one RI a cluster"; an extension at the start is broken, and is left to the loop at the end of `parse`
+-- the last three arms: one RI to a cluster; an extension at the start is broken, and is left to the loop at the end of `parse`
 unfoldable pub other : Rule
-other = choose (is RI) (acceptAs RI Base)
-    (choose isExtension (mark setBroken)
-    (mark setSpaceFromChar ▸ take Base))
+other =
+    is RI ⇒ acceptAs RI Base
+    ∣ isExtension ⇒ mark setBroken
+    ∣ mark setSpaceFromChar ▸ take Base
 
 -- the arms of Hangul
 unfoldable pub syllable : Rule
-syllable = choose (is L) leading
-    (choose (oneOf (LV ∷ «V» ∷ [])) vowel
-    (choose (oneOf (LVT ∷ T ∷ [])) trailing
-    other))
+syllable =
+    is L ⇒ leading
+    ∣ oneOf (LV ∷ «V» ∷ []) ⇒ vowel
+    ∣ oneOf (LVT ∷ T ∷ []) ⇒ trailing
+    ∣ other
 
 -- `match self.kind()`: the arms `CN`, `LF` and `CR`
 unfoldable pub control : Rule
-control = choose (is CN) (take Control)
-    (choose (is LF) newline
-    (choose (is CR) (newline ▸ acceptAs LF Control)
-    syllable))
+control =
+    is CN ⇒ take Control
+    ∣ is LF ⇒ newline
+    ∣ is CR ⇒ newline ▸ acceptAs LF Control
+    ∣ syllable
 
 -- `if self.emoji()` and its `else`
 unfoldable pub start : Rule
-start = choose isEmoji emojis control
+start = isEmoji ⇒ emojis ∣ control
 
 -- `parse`: prepended characters, before the emoji mark is looked at; one start; extensions, after controls too
 unfoldable pub cluster : Rule

@@ -6,11 +6,11 @@ use mathlib.Core.List.{List, [], _∷_, map}
 use native.Mathlib.Nat.{add-zero, zero-add, add-suc, suc-add, le-of-suc-le-suc, not-suc-le-zero}
 use lib.Dec.{eqb, ltb}
 use lib.ListN.{getD}
+use Rattle.basics.proofs.Tests.{both-of}
 use Rattle.classes.specs.Shape.{shapeCode}
 use Rattle.classes.specs.declared.Shape.{Shape}
 use Rattle.classes.specs.declared.Shape.the-variants.{Base, Mark, Control, Reph, Kinzi, Halant, VPre, VBlw, VMPre, MedialRa, Anusvara, Vs, Zwnj, Zwj, Other}
 use Rattle.parse.specs.Rule.{Rule, skip}
-use Rattle.parse.proofs.Loop.{both}
 use Rattle.residual.proofs.Residual.{Res, pass, halt, act, put, noted}
 
 -- a cell of a table: the cluster is over and the loop is left, a character, a note, a character of a new cluster; and the rule that is left
@@ -104,5 +104,5 @@ allTrue (b ∷ bs) = cond b (allTrue bs) false
 
 pub true-at : (bs : List Bool) → allTrue bs ≡ true → (j : ℕ) → getD bs j true ≡ true
 true-at [] e j = refl
-true-at (b ∷ bs) e zero = both b (allTrue bs) e .0
-true-at (b ∷ bs) e (suc j) = true-at bs (both b (allTrue bs) e .1) j
+true-at (b ∷ bs) e zero = both-of b (allTrue bs) e .0
+true-at (b ∷ bs) e (suc j) = true-at bs (both-of b (allTrue bs) e .1) j

@@ -3,8 +3,8 @@ use Prim.Native.Nat.{ℕ, _+_, _*_}
 use mathlib.Core.Path.{_≡_, refl, _∙_, ap}
 use lib.Dec.{eqb}
 use borrow.Author.Tests.{ne-eqb}
+use Rattle.basics.proofs.Tests.{by-test}
 use Rattle.token.specs.Token.{scalarOf, kindOf, emojiOf, selectorOf}
-use Rattle.parse.proofs.Loop.{by-test}
 use Rattle.tables.specs.Symbols.{special, simpleIn, simpleSymbol}
 
 -- with EX what is rare is looked at

@@ -6,12 +6,13 @@ use mathlib.Core.List.{List, [], _∷_}
 use native.Mathlib.Omega.{arith}
 use lib.Dec.{eqb}
 use borrow.Author.Tests.{eqb-true}
+use Rattle.basics.proofs.Tests.{if-intro, by-test}
+use Rattle.basics.specs.Sets.{member}
 use Rattle.classes.specs.ClusterBreak.{EX, ZWJ}
 use Rattle.classes.specs.Scalar.{ZWNJ, VS15, VS16}
 use Rattle.token.specs.Token.{scalarOf, breakOf}
-use Rattle.parse.specs.Rule.{Test, isBreak, isScalar, isEmoji, member}
+use Rattle.parse.specs.Rule.{Test, isBreak, isScalar, isEmoji}
 use Rattle.parse.specs.Shared.{emojis, emojiTurn, emojiExtension, emojiMark}
-use Rattle.parse.proofs.Loop.{if-intro, by-test}
 use Rattle.tables.specs.Symbols.{special, emojiSymbol}
 use Rattle.residual.proofs.Residual.{Inside, Fine}
 use Rattle.tables.proofs.Cells.{agree, tabulate}

@@ -10,5 +10,5 @@ pub mod OtherFine
 pub mod MyanmarFine
 pub mod UseFine
 pub mod Kinzi
-pub mod MyanmarCalm
+pub mod MyanmarEnd
 pub mod Cited

@@ -1,12 +1,14 @@
 -- The symbols of a token answer every test of the Myanmar grammar. Assumes nothing.
 use Prim.Native.Nat.{ℕ, _+_, _*_, _/_, _%_, _<_}
 use mathlib.Core.Path.{_≡_, refl, sym, _∙_, ap}
-use mathlib.Core.Bool.{Bool, true, false, cond}
+use mathlib.Core.Bool.{Bool, true, false, cond, false≢true}
 use mathlib.Core.List.{List, [], _∷_}
 use native.Mathlib.Omega.{arith}
 use lib.Dec.{eqb, ltb}
 use lib.ListN.{getD}
 use borrow.Author.Tests.{eq-eqb, ltb-true, eqb-true}
+use Rattle.basics.proofs.Tests.{if-intro, by-test, both-of}
+use Rattle.basics.specs.Sets.{member}
 use Rattle.classes.specs.declared.Mode.{Mode}
 use Rattle.classes.specs.declared.Shape.{Shape}
 use Rattle.classes.specs.declared.Shape.the-variants.{Base, Control as ControlShape, Zwnj, Zwj, Other, Vs, VPre as VPre-shape, VBlw as VBlw-shape, MedialRa, Anusvara}
@@ -16,9 +18,8 @@ use Rattle.classes.specs.Scalar.{CR, LF, ZWNJ, ZWJ, VS15, VS16, kinziFirsts, AS
 use Rattle.token.specs.Token.{scalarOf, kindOf, breakOf, emojiOf}
 use Rattle.records.specs.declared.Parser.the-variants.{Myanmar}
 use Rattle.parse.specs.State.{tokenAt}
-use Rattle.parse.specs.Rule.{Test, is, isBreak, isScalar, isEmoji, oneOf, member, acceptAs, manyAs}
+use Rattle.parse.specs.Rule.{Test, is, isBreak, isScalar, isEmoji, oneOf, acceptAs, manyAs}
 use Rattle.parse.specs.Shared.{emojis, newline, otherArm, otherClass}
-use Rattle.parse.proofs.Loop.{false-true, if-intro, by-test, both}
 use Rattle.myanmar.specs.Grammar.{cluster, isAlone, kinzi, syllable, base, finals, vowels, medials, pwoToneMark, postBaseVowel, stacked, acceptWithAs, isKinzi, scalarAt}
 use Rattle.tables.specs.Symbols.{special, otherSymbol, emojiSymbol, endsAt, myanmarIn, myanmarSymbol, implies, regularMyanmar, myanmarRegular, Regular}
 use Rattle.residual.proofs.Residual.{Inside, Fine}
@@ -49,7 +50,7 @@ symbol-all Q e o c z w k a b d f g = if-intro Q e _ _ a (λ he. if-intro Q o _ _
 
 imp : (a b : Bool) → implies a b ≡ true → a ≡ true → b ≡ true
 imp true b h e = h
-imp false b h e = absurd (false-true e)
+imp false b h e = absurd (false≢true e)
 
 -- a kinzi begins with a letter that can begin one
 kinzi-begins : (text : List ℕ) (i : ℕ) (b : Bool) → implies (member kinziFirsts (scalarAt text i)) b ≡ true → implies (isKinzi text i) b ≡ true
@@ -86,7 +87,7 @@ module _ (mode : Mode) (text : List ℕ) (regular : Regular Myanmar text) where
 
     parts : (ltb k 26 ≡ true) × ((implies (eqb (emojiOf (tok i)) 1) (eqb k 13) ≡ true) × ((implies (isKinzi text i) (eqb k 2) ≡ true) × (implies (eqb (scalarOf (tok i)) LF) (cond (eqb k 13) (eqb (emojiOf (tok i)) 0) false) ≡ true)))
     unfolding myanmarRegular regularMyanmar
-    parts = let a = both (ltb k 26) _ (regular i h) in let b = both (implies (eqb (emojiOf (tok i)) 1) (eqb k 13)) _ (a .1) in let c = both (implies (member kinziFirsts (scalarOf (tok i))) (eqb k 2)) _ (b .1) in (a .0, (b .0, (kinzi-begins text i (eqb k 2) (c .0), c .1)))
+    parts = let a = both-of (ltb k 26) _ (regular i h) in let b = both-of (implies (eqb (emojiOf (tok i)) 1) (eqb k 13)) _ (a .1) in let c = both-of (implies (member kinziFirsts (scalarOf (tok i))) (eqb k 2)) _ (b .1) in (a .0, (b .0, (kinzi-begins text i (eqb k 2) (c .0), c .1)))
 
     kind-small : k < 26
     kind-small = ltb-true k 26 (parts .0)
@@ -98,7 +99,7 @@ module _ (mode : Mode) (text : List ℕ) (regular : Regular Myanmar text) where
     kind-kinzi e = eqb-true k 2 (imp _ _ (parts .1 .1 .0) e)
 
     line-feed : eqb (scalarOf (tok i)) LF ≡ true → (eqb k 13 ≡ true) × (eqb (emojiOf (tok i)) 0 ≡ true)
-    line-feed e = both (eqb k 13) (eqb (emojiOf (tok i)) 0) (imp _ _ (parts .1 .1 .1) e)
+    line-feed e = both-of (eqb k 13) (eqb (emojiOf (tok i)) 0) (imp _ _ (parts .1 .1 .1) e)
 
     -- what holds of each symbol that the token can have
     its-symbol : (Q : ℕ → Type 0) → (eqb (emojiOf (tok i)) 1 ≡ true → Q 26) → (eqb (emojiOf (tok i)) 1 ≡ false → eqb k 13 ≡ true → Q (otherSymbol (tok i))) → (isKinzi text i ≡ true → Q 33) → (isKinzi text i ≡ true → Q 32) → (eqb k 13 ≡ false → Q k) → Q (sa i)
@@ -122,8 +123,8 @@ module _ (mode : Mode) (text : List ℕ) (regular : Regular Myanmar text) where
 
     symbol-emoji : eqb (sa i) 26 ≡ eqb (emojiOf (tok i)) 1
     symbol-emoji = by-test (eqb (emojiOf (tok i)) 1)
-        (λ e. its-symbol (λ a. eqb a 26 ≡ true) (λ z. refl) (λ z o. absurd (false-true (sym z ∙ e))) (λ z. absurd (never e z)) (λ z. absurd (never e z)) (λ z. absurd (false-true (sym z ∙ eq-eqb k 13 (kind-emoji e)))) ∙ sym e)
-        (λ e. its-symbol (λ a. eqb a 26 ≡ false) (λ z. absurd (false-true (sym e ∙ z))) (λ z o. other (λ a. eqb a 26) (λ c. false) refl) (λ z. refl) (λ z. refl) (λ z. small (λ a. eqb a 26) (λ a. false) refl) ∙ sym e)
+        (λ e. its-symbol (λ a. eqb a 26 ≡ true) (λ z. refl) (λ z o. absurd (false≢true (sym z ∙ e))) (λ z. absurd (never e z)) (λ z. absurd (never e z)) (λ z. absurd (false≢true (sym z ∙ eq-eqb k 13 (kind-emoji e)))) ∙ sym e)
+        (λ e. its-symbol (λ a. eqb a 26 ≡ false) (λ z. absurd (false≢true (sym e ∙ z))) (λ z o. other (λ a. eqb a 26) (λ c. false) refl) (λ z. refl) (λ z. refl) (λ z. small (λ a. eqb a 26) (λ a. false) refl) ∙ sym e)
       where
         never : eqb (emojiOf (tok i)) 1 ≡ true → isKinzi text i ≡ true → ⊥
         never e z = let y : _≡_ {A = ℕ} 13 2 = sym (kind-emoji e) ∙ kind-kinzi z in omega (arith, y)
@@ -152,7 +153,7 @@ module _ (mode : Mode) (text : List ℕ) (regular : Regular Myanmar text) where
     -- a kinzi's first letter is none of the others
     not-kinzi : (x : ℕ) → scalarOf (tok i) ≡ x → member kinziFirsts x ≡ false → isKinzi text i ≡ true → ⊥
     unfolding isKinzi
-    not-kinzi x e m z = false-true (sym (ap (member kinziFirsts) e ∙ m) ∙ both (member kinziFirsts (scalarAt text i)) _ z .0)
+    not-kinzi x e m z = false≢true (sym (ap (member kinziFirsts) e ∙ m) ∙ both-of (member kinziFirsts (scalarAt text i)) _ z .0)
 
     symbol-free : (x : ℕ) → scalarOf (tok i) ≡ x → eqb x CR ≡ false → eqb x LF ≡ false → eqb x ZWNJ ≡ false → eqb x ZWJ ≡ false → member kinziFirsts x ≡ false → fixed (sa i) ≡ false
     symbol-free x e a b c d m = its-symbol (λ s. fixed s ≡ false) (λ z. refl) (λ z o. other fixed (λ c. ltb c 4) refl ∙ case-free (tok i) x e a b c d) (λ z. absurd (not-kinzi x e m z)) (λ z. absurd (not-kinzi x e m z)) (λ z. small fixed (λ a. false) refl)
@@ -251,11 +252,11 @@ module _ (mode : Mode) (text : List ℕ) (regular : Regular Myanmar text) where
     unfolding special
     one-of x m = by-test (eqb x 0x1004) (λ e. ap special (eqb-true x 0x1004 e))
         (λ e. by-test (eqb x 0x101B) (λ f. ap special (eqb-true x 0x101B f))
-        (λ f. by-test (eqb x 0x105A) (λ g. ap special (eqb-true x 0x105A g)) (λ g. absurd (false-true (sym (rw (e, f, g) refl) ∙ m)))))
+        (λ f. by-test (eqb x 0x105A) (λ g. ap special (eqb-true x 0x105A g)) (λ g. absurd (false≢true (sym (rw (e, f, g) refl) ∙ m)))))
 
     kinzi-special : isKinzi text i ≡ true → special (scalarOf (tok i)) ≡ 0
     unfolding isKinzi
-    kinzi-special z = one-of (scalarOf (tok i)) (both (member kinziFirsts (scalarAt text i)) _ z .0)
+    kinzi-special z = one-of (scalarOf (tok i)) (both-of (member kinziFirsts (scalarAt text i)) _ z .0)
 
     pub pair-feasible : feasible (sa i) (eb i) ≡ true
     pair-feasible = its-symbol (λ a. feasible a (eb i) ≡ true) (λ z. refl) (λ z o. ap (λ p. p (eb i)) (other feasible feasibleIn refl) ∙ case-feasible (tok i)) (λ z. emoji-fits (tok i) (feasible 33) 0 refl refl refl (kinzi-special z)) (λ z. emoji-fits (tok i) (feasible 32) 0 refl refl refl (kinzi-special z)) (λ z. small (λ a. feasible a (eb i)) (λ a. true) refl)

@@ -6,9 +6,10 @@ use mathlib.Core.Bool.{Bool, true, false, cond}
 use mathlib.Core.List.{List, [], _∷_, map}
 use lib.Dec.{eqb, ltb}
 use lib.ListN.{getD}
+use Rattle.basics.specs.Sets.{member}
 use Rattle.classes.specs.declared.Shape.the-variants.{Base, Mark, Control, Kinzi, Halant, VPre, VBlw, MedialRa, Anusvara, Vs, Zwnj, Zwj, Other}
 use Rattle.parse.specs.declared.Emoji.the-variants.{Text, Color}
-use Rattle.parse.specs.Rule.{Test, Rule, skip, stop, push, note, mark, seq, choose, while, part, is, isBreak, isScalar, isEmoji, member, oneOf, setBroken, setEmoji}
+use Rattle.parse.specs.Rule.{Test, Rule, skip, stop, push, note, mark, seq, choose, while, scope, is, isBreak, isScalar, isEmoji, oneOf, setBroken, setEmoji}
 use Rattle.parse.specs.Shared.{emojiMark, emojiExtension, emojiTurn, emojis, newline, otherArm}
 use Rattle.myanmar.specs.Grammar.{isKinzi, acceptWithAs, stacked, postBaseVowel, pwoToneMark, medials, vowels, finals, base, kinzi, syllable, isAlone, cluster}
 use Rattle.tables.specs.MyanmarTable.{myanmarTable}
@@ -305,7 +306,7 @@ unfoldable pub r95 : Rule
 r95 = while isEmoji r94
 
 unfoldable pub r96 : Rule
-r96 = part r95
+r96 = scope r95
 
 unfoldable pub r97 : Rule
 r97 = seq r59 r64
@@ -365,7 +366,7 @@ unfoldable pub r115 : Rule
 r115 = seq r93 r95
 
 unfoldable pub r116 : Rule
-r116 = part r115
+r116 = scope r115
 
 abbrev pub rules : List Rule
 rules = skip ∷ r56 ∷ r58 ∷ r65 ∷ r66 ∷ r54 ∷ r67 ∷ r69 ∷ r70 ∷ r71 ∷ r72 ∷ r74 ∷ r76 ∷ r50 ∷ r77 ∷ r78 ∷ r53 ∷ r80 ∷ r55 ∷ r96 ∷ r97 ∷ r52 ∷ r99 ∷ r100 ∷ r102 ∷ r104 ∷ r106 ∷ r108 ∷ r110 ∷ r112 ∷ r114 ∷ r64 ∷ r51 ∷ r116 ∷ []

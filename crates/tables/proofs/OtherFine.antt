@@ -1,20 +1,20 @@
 -- A token of class O by its case, and what its symbol says by one computed test over the six: one law for Myanmar, complex and Khmer. Assumes nothing.
 use Prim.Native.Nat.{ℕ, _+_, _<_}
 use mathlib.Core.Path.{_≡_, refl, sym, _∙_, ap}
-use mathlib.Core.Bool.{Bool, true, false, cond}
+use mathlib.Core.Bool.{Bool, true, false, cond, false≢true}
 use mathlib.Core.List.{[], _∷_}
 use native.Mathlib.Omega.{arith}
 use lib.Dec.{eqb, ltb}
 use lib.ListN.{getD}
 use borrow.Author.Tests.{eqb-true}
+use Rattle.basics.proofs.Tests.{by-test}
+use Rattle.basics.specs.Sets.{member}
 use Rattle.classes.specs.declared.Shape.{Shape}
 use Rattle.classes.specs.declared.Shape.the-variants.{Base, Control as ControlShape, Zwnj, Zwj}
 use Rattle.classes.specs.Category.{Format, Control}
 use Rattle.classes.specs.Scalar.{CR, LF, ZWNJ, ZWJ}
 use Rattle.token.specs.Token.{scalarOf, categoryOf}
-use Rattle.parse.specs.Rule.{member}
 use Rattle.parse.specs.Shared.{otherClass}
-use Rattle.parse.proofs.Loop.{false-true, by-test}
 use Rattle.tables.specs.Symbols.{special, emojiSymbol, otherIn}
 use Rattle.tables.proofs.Cells.{agree, tabulate}
 use Rattle.tables.proofs.EmojiFine.{emoji-fits}
@@ -77,7 +77,7 @@ module _ (t : ℕ) where
     case-inner = other-cases 0 5 t (λ c s k. ltb 1 c ≡ true) (λ h. sym cr ∙ h) (λ h i. sym lf ∙ i) (λ h i j. refl) (λ h i j. refl) (λ h i. refl) (λ h i. refl)
 
     pub case-class : otherClass t ≡ classOf (caseOf t)
-    case-class = other-cases 0 5 t (λ c s k. k ≡ classOf c) (λ h. absurd (false-true (sym cr ∙ h))) (λ h i. absurd (false-true (sym lf ∙ i))) (λ h i j. refl) (λ h i j. refl) (λ h i. refl) (λ h i. refl)
+    case-class = other-cases 0 5 t (λ c s k. k ≡ classOf c) (λ h. absurd (false≢true (sym cr ∙ h))) (λ h i. absurd (false≢true (sym lf ∙ i))) (λ h i j. refl) (λ h i j. refl) (λ h i. refl) (λ h i. refl)
 
   -- of one that is none of the scalars that a case says
   pub case-free : (x : ℕ) → scalarOf t ≡ x → eqb x CR ≡ false → eqb x LF ≡ false → eqb x ZWNJ ≡ false → eqb x ZWJ ≡ false → ltb (caseOf t) 4 ≡ false

@@ -6,13 +6,14 @@ use mathlib.Core.List.{List, [], _∷_}
 use native.Mathlib.Omega.{arith}
 use lib.Dec.{eqb, ltb}
 use borrow.Author.Tests.{ltb-true, eqb-true}
+use Rattle.basics.proofs.Tests.{both-of}
+use Rattle.basics.specs.Sets.{member}
 use Rattle.classes.specs.ClusterBreak.{CN, CR, LF, L, «V», T, LV, LVT, RI, EX, SM, ZWJ, PP}
 use Rattle.classes.specs.Scalar.{ZWNJ, VS15, VS16}
 use Rattle.token.specs.Token.{scalarOf, kindOf, breakOf, emojiOf, selectorOf}
 use Rattle.parse.specs.State.{tokenAt}
-use Rattle.parse.specs.Rule.{Test, is, isBreak, isScalar, isEmoji, isSelector, oneOf, member}
+use Rattle.parse.specs.Rule.{Test, is, isBreak, isScalar, isEmoji, isSelector, oneOf}
 use Rattle.parse.specs.Shared.{emojis, newline}
-use Rattle.parse.proofs.Loop.{both}
 use Rattle.simple.specs.Grammar.{cluster, start, control, syllable, leading, vowel, trailing, other, isExtension, extension, extend, combining}
 use Rattle.tables.specs.Symbols.{special, simpleIn, simpleSymbol, simpleRegular, Regular}
 use Rattle.records.specs.declared.Parser.the-variants.{Simple}
@@ -82,11 +83,11 @@ module _ (text : List ℕ) (regular : Regular Simple text) where
 
   kind-below : (i : ℕ) → Inside text i → kindOf (tok i) < 14
   unfolding simpleRegular
-  kind-below i h = ltb-true (kindOf (tok i)) 14 (both (ltb (kindOf (tok i)) 14) _ (regular i h) .0)
+  kind-below i h = ltb-true (kindOf (tok i)) 14 (both-of (ltb (kindOf (tok i)) 14) _ (regular i h) .0)
 
   kind-break : (i : ℕ) → Inside text i → kindOf (tok i) ≡ breakOf (tok i)
   unfolding simpleRegular
-  kind-break i h = eqb-true (kindOf (tok i)) (breakOf (tok i)) (both (ltb (kindOf (tok i)) 14) _ (regular i h) .1)
+  kind-break i h = eqb-true (kindOf (tok i)) (breakOf (tok i)) (both-of (ltb (kindOf (tok i)) 14) _ (regular i h) .1)
 
   -- a number that the sample says is one that the feature says, computed over all of them
   says : {A : Type 0} (f g : ℕ → A) → tabulate (λ n. f (sampleAt (symbolAt n))) 0 224 ≡ tabulate g 0 224 → (i : ℕ) → Inside text i → f (sample i) ≡ g (feature (tok i))

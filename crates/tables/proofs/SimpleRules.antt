@@ -8,7 +8,7 @@ use lib.ListN.{getD}
 use Rattle.classes.specs.declared.Shape.the-variants.{Base, Mark, Control, Vs, Zwnj, Zwj}
 use Rattle.parse.specs.declared.Emoji.the-variants.{Default, Text, Color}
 use Rattle.parse.specs.declared.Space.the-variants.{Newline}
-use Rattle.parse.specs.Rule.{Test, Rule, skip, stop, push, note, mark, seq, choose, while, part, is, isBreak, isScalar, isEmoji, isSelector, oneOf, setBroken, setEmoji, setSpace, setSpaceFromChar, forceNormalize}
+use Rattle.parse.specs.Rule.{Test, Rule, skip, stop, push, note, mark, seq, choose, while, scope, is, isBreak, isScalar, isEmoji, isSelector, oneOf, setBroken, setEmoji, setSpace, setSpaceFromChar, forceNormalize}
 use Rattle.parse.specs.Shared.{emojiMark, emojiExtension, emojiTurn, emojis, newline}
 use Rattle.simple.specs.Grammar.{isExtension, combining, extend, extension, leading, vowel, trailing, other, syllable, control, start, cluster}
 use Rattle.tables.specs.SimpleTable.{simpleTable}
@@ -122,7 +122,7 @@ unfoldable pub r34 : Rule
 r34 = while isEmoji r33
 
 unfoldable pub r35 : Rule
-r35 = part r34
+r35 = scope r34
 
 unfoldable pub r36 : Rule
 r36 = seq r22 r35
@@ -194,7 +194,7 @@ unfoldable pub r58 : Rule
 r58 = seq r32 r34
 
 unfoldable pub r59 : Rule
-r59 = part r58
+r59 = scope r58
 
 unfoldable pub r60 : Rule
 r60 = seq r59 r10

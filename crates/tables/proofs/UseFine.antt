@@ -1,12 +1,14 @@
 -- The symbols of a token answer every test of the complex grammar, with and without Khmer. Assumes nothing.
 use Prim.Native.Nat.{ℕ, _+_, _*_, _/_, _%_, _<_}
 use mathlib.Core.Path.{_≡_, refl, sym, _∙_, ap}
-use mathlib.Core.Bool.{Bool, true, false, cond}
+use mathlib.Core.Bool.{Bool, true, false, cond, false≢true}
 use mathlib.Core.List.{List, [], _∷_}
 use native.Mathlib.Omega.{arith}
 use lib.Dec.{eqb, ltb}
 use lib.ListN.{getD}
 use borrow.Author.Tests.{eq-eqb, ltb-true, eqb-true}
+use Rattle.basics.proofs.Tests.{if-intro, by-test, both-of}
+use Rattle.basics.specs.Sets.{member}
 use Rattle.classes.specs.declared.Shape.{Shape}
 use Rattle.classes.specs.declared.Shape.the-variants.{Base, Control as ControlShape, Zwnj, Zwj, Other, Vs, VPre as VPre-shape}
 use Rattle.classes.specs.ClusterBreak.{EX, ZWJ as ZWJ-break}
@@ -14,9 +16,8 @@ use Rattle.classes.specs.UseClass.{B, CMAbv, CMBlw, CS, FAbv, FBlw, FM, FPst, G
 use Rattle.classes.specs.Scalar.{CR, LF, ZWNJ, ZWJ, VS15, VS16, COENG}
 use Rattle.token.specs.Token.{scalarOf, kindOf, breakOf, emojiOf}
 use Rattle.parse.specs.State.{tokenAt}
-use Rattle.parse.specs.Rule.{Rule, Test, is, isBreak, isScalar, isEmoji, oneOf, member, acceptAs, manyAs}
+use Rattle.parse.specs.Rule.{Rule, Test, is, isBreak, isScalar, isEmoji, oneOf, acceptAs, manyAs}
 use Rattle.parse.specs.Shared.{emojis, newline, otherArm, otherClass}
-use Rattle.parse.proofs.Loop.{false-true, if-intro, by-test, both}
 use Rattle.complex.specs.Grammar.{cluster, letter, symbol, number, halantNumber, standard, standardTail, isSymbolMark, markedSyllable, syllable, finals, vowels, medials, vowelModifier, isVowelModifier, halantBase, opensHalant, halant, isCoeng, consonantMarks, symbolMarks, baseVs, byKind, given, toShapeClass}
 use Rattle.tables.specs.Symbols.{special, useOther, emojiSymbol, useIn, isKhmerCoeng, useSymbol, implies, regularUse, useRegular}
 use Rattle.residual.proofs.Residual.{Inside, Fine}
@@ -47,7 +48,7 @@ symbol-all Q e o c z k a b d g = if-intro Q e _ _ a (λ he. if-intro Q o _ _ (b 
 
 imp : (a b : Bool) → implies a b ≡ true → a ≡ true → b ≡ true
 imp true b h e = h
-imp false b h e = absurd (false-true e)
+imp false b h e = absurd (false≢true e)
 
 module _ (khmer : Bool) (text : List ℕ) (regular : (i : ℕ) → Inside text i → useRegular khmer (tokenAt text i) ≡ true) where
   abbrev tok : ℕ → ℕ
@@ -74,7 +75,7 @@ module _ (khmer : Bool) (text : List ℕ) (regular : (i : ℕ) → Inside text i
 
     parts : (ltb k 37 ≡ true) × ((implies (eqb (emojiOf (tok i)) 1) (eqb k 17) ≡ true) × ((implies (isKhmerCoeng khmer (scalarOf (tok i))) (eqb k 9) ≡ true) × (implies (eqb (scalarOf (tok i)) LF) (cond (eqb k 17) (eqb (emojiOf (tok i)) 0) false) ≡ true)))
     unfolding useRegular regularUse
-    parts = let a = both (ltb k 37) _ (regular i h) in let b = both (implies (eqb (emojiOf (tok i)) 1) (eqb k 17)) _ (a .1) in let c = both (implies (isKhmerCoeng khmer (scalarOf (tok i))) (eqb k 9)) _ (b .1) in (a .0, (b .0, (c .0, c .1)))
+    parts = let a = both-of (ltb k 37) _ (regular i h) in let b = both-of (implies (eqb (emojiOf (tok i)) 1) (eqb k 17)) _ (a .1) in let c = both-of (implies (isKhmerCoeng khmer (scalarOf (tok i))) (eqb k 9)) _ (b .1) in (a .0, (b .0, (c .0, c .1)))
 
     kind-small : k < 37
     kind-small = ltb-true k 37 (parts .0)
@@ -86,7 +87,7 @@ module _ (khmer : Bool) (text : List ℕ) (regular : (i : ℕ) → Inside text i
     kind-kinzi e = eqb-true k 9 (imp _ _ (parts .1 .1 .0) e)
 
     line-feed : eqb (scalarOf (tok i)) LF ≡ true → (eqb k 17 ≡ true) × (eqb (emojiOf (tok i)) 0 ≡ true)
-    line-feed e = both (eqb k 17) (eqb (emojiOf (tok i)) 0) (imp _ _ (parts .1 .1 .1) e)
+    line-feed e = both-of (eqb k 17) (eqb (emojiOf (tok i)) 0) (imp _ _ (parts .1 .1 .1) e)
 
     -- what holds of each symbol that the token can have
     its-symbol : (Q : ℕ → Type 0) → (eqb (emojiOf (tok i)) 1 ≡ true → Q 37) → (eqb (emojiOf (tok i)) 1 ≡ false → eqb k 17 ≡ true → Q (useOther (tok i))) → (isKhmerCoeng khmer (scalarOf (tok i)) ≡ true → Q 43) → (eqb k 17 ≡ false → Q k) → Q (sa i)
@@ -110,8 +111,8 @@ module _ (khmer : Bool) (text : List ℕ) (regular : (i : ℕ) → Inside text i
 
     symbol-emoji : eqb (sa i) 37 ≡ eqb (emojiOf (tok i)) 1
     symbol-emoji = by-test (eqb (emojiOf (tok i)) 1)
-        (λ e. its-symbol (λ a. eqb a 37 ≡ true) (λ z. refl) (λ z o. absurd (false-true (sym z ∙ e))) (λ z. absurd (never e z)) (λ z. absurd (false-true (sym z ∙ eq-eqb k 17 (kind-emoji e)))) ∙ sym e)
-        (λ e. its-symbol (λ a. eqb a 37 ≡ false) (λ z. absurd (false-true (sym e ∙ z))) (λ z o. other (λ a. eqb a 37) (λ c. false) refl) (λ z. refl) (λ z. small (λ a. eqb a 37) (λ a. false) refl) ∙ sym e)
+        (λ e. its-symbol (λ a. eqb a 37 ≡ true) (λ z. refl) (λ z o. absurd (false≢true (sym z ∙ e))) (λ z. absurd (never e z)) (λ z. absurd (false≢true (sym z ∙ eq-eqb k 17 (kind-emoji e)))) ∙ sym e)
+        (λ e. its-symbol (λ a. eqb a 37 ≡ false) (λ z. absurd (false≢true (sym e ∙ z))) (λ z o. other (λ a. eqb a 37) (λ c. false) refl) (λ z. refl) (λ z. small (λ a. eqb a 37) (λ a. false) refl) ∙ sym e)
       where
         never : eqb (emojiOf (tok i)) 1 ≡ true → isKhmerCoeng khmer (scalarOf (tok i)) ≡ true → ⊥
         never e z = let y : _≡_ {A = ℕ} 17 9 = sym (kind-emoji e) ∙ kind-kinzi z in omega (arith, y)
@@ -138,14 +139,14 @@ module _ (khmer : Bool) (text : List ℕ) (regular : (i : ℕ) → Inside text i
     symbol-sign : eqb (sa i) 43 ≡ isKhmerCoeng khmer (scalarOf (tok i))
     symbol-sign = by-test (isKhmerCoeng khmer (scalarOf (tok i)))
         (λ z. ap (λ a. eqb a 43) (signed z (no-face z) (ap (λ n. eqb n 17) (kind-kinzi z))) ∙ sym z)
-        (λ z. its-symbol (λ a. eqb a 43 ≡ false) (λ e. refl) (λ e o. other (λ a. eqb a 43) (λ c. false) refl) (λ e. absurd (false-true (sym z ∙ e))) (λ e. small (λ a. eqb a 43) (λ a. false) refl) ∙ sym z)
+        (λ z. its-symbol (λ a. eqb a 43 ≡ false) (λ e. refl) (λ e o. other (λ a. eqb a 43) (λ c. false) refl) (λ e. absurd (false≢true (sym z ∙ e))) (λ e. small (λ a. eqb a 43) (λ a. false) refl) ∙ sym z)
       where
         no-face : isKhmerCoeng khmer (scalarOf (tok i)) ≡ true → eqb (emojiOf (tok i)) 1 ≡ false
         no-face z = by-test (eqb (emojiOf (tok i)) 1) (λ e. absurd (let y : _≡_ {A = ℕ} 17 9 = sym (kind-emoji e) ∙ kind-kinzi z in omega (arith, y))) (λ e. e)
 
     -- U+17D2 is none of the others
     not-kinzi : (x : ℕ) → scalarOf (tok i) ≡ x → eqb x COENG ≡ false → isKhmerCoeng khmer (scalarOf (tok i)) ≡ true → ⊥
-    not-kinzi x e m z = false-true (sym (ap (λ y. eqb y COENG) e ∙ m) ∙ both khmer _ z .1)
+    not-kinzi x e m z = false≢true (sym (ap (λ y. eqb y COENG) e ∙ m) ∙ both-of khmer _ z .1)
 
     symbol-free : (x : ℕ) → scalarOf (tok i) ≡ x → eqb x CR ≡ false → eqb x LF ≡ false → eqb x ZWNJ ≡ false → eqb x ZWJ ≡ false → eqb x COENG ≡ false → fixed (sa i) ≡ false
     symbol-free x e a b c d m = its-symbol (λ s. fixed s ≡ false) (λ z. refl) (λ z o. other fixed (λ c. ltb c 4) refl ∙ case-free (tok i) x e a b c d) (λ z. absurd (not-kinzi x e m z)) (λ z. small fixed (λ a. false) refl)
@@ -246,7 +247,7 @@ module _ (khmer : Bool) (text : List ℕ) (regular : (i : ℕ) → Inside text i
     -- the two symbols say the same of the scalar
     kinzi-special : isKhmerCoeng khmer (scalarOf (tok i)) ≡ true → special (scalarOf (tok i)) ≡ 0
     unfolding special
-    kinzi-special z = ap special (eqb-true (scalarOf (tok i)) COENG (both khmer _ z .1))
+    kinzi-special z = ap special (eqb-true (scalarOf (tok i)) COENG (both-of khmer _ z .1))
 
     pub pair-feasible : feasible (sa i) (eb i) ≡ true
     pair-feasible = its-symbol (λ a. feasible a (eb i) ≡ true) (λ z. refl) (λ z o. ap (λ p. p (eb i)) (other feasible feasibleIn refl) ∙ case-feasible (tok i)) (λ z. emoji-fits (tok i) (feasible 43) 0 refl refl refl (kinzi-special z)) (λ z. small (λ a. feasible a (eb i)) (λ a. true) refl)

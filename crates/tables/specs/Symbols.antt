@@ -1,12 +1,13 @@
--- The tables on numbers: a symbol for each kind of token that a grammar tells apart, a row for each rule that can be left within a
--- cluster, row 0 for the place between two clusters, and a cell for each of both: class (4 bits), what is done (2 bits), the next row.
--- No contract of the public face cites what is here.
+-- What only private contracts need. The tables on numbers: a symbol for each kind of token that a grammar tells apart, a row for each
+-- rule that can be left within a cluster, row 0 for the place between two clusters, and a cell for each of both: class (4 bits), what is
+-- done (2 bits), the next row.
 use Prim.Native.Nat.{ℕ, _+_, _*_, _<_}
 use mathlib.Core.Path.{_≡_}
 use mathlib.Core.Bool.{Bool, true, false, cond}
 use mathlib.Core.List.{List}
 use lib.Dec.{eqb, ltb}
 use lib.ListN.{getD, length}
+use Rattle.basics.specs.Sets.{member}
 use Rattle.classes.specs.Scalar.{CGJ, COENG, CR, LF, ZWNJ, ZWJ, VS15, VS16, kinziFirsts}
 use Rattle.classes.specs.Category.{Format, Control}
 use Rattle.classes.specs.ClusterBreak as ClusterBreak
@@ -18,7 +19,6 @@ use Rattle.token.specs.Token.{scalarOf, kindOf, breakOf, categoryOf, emojiOf, s
 use Rattle.records.specs.declared.Parser.{Parser}
 use Rattle.records.specs.declared.Parser.the-variants.{Simple, Myanmar, Complex, Khmer}
 use Rattle.parse.specs.State.{tokenAt}
-use Rattle.parse.specs.Rule.{member}
 use Rattle.myanmar.specs.Grammar.{isKinzi}
 use Rattle.tables.specs.SimpleTable.{simpleTable}
 use Rattle.tables.specs.MyanmarTable.{myanmarTable}

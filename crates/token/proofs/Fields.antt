@@ -1,6 +1,6 @@
 -- A packed token gives its fields back, where each fits: so a column of tokens says what the lent columns say.
 -- Assumes nothing.
-use Prim.Native.Nat.{ℕ, _<_, _+_, _*_, _/_, _%_}
+use Prim.Native.Nat.{ℕ, _<_}
 use mathlib.Core.Path.{_≡_}
 use native.Mathlib.Omega.{arith}
 use Rattle.token.specs.Token.{scalarOf, kindOf, breakOf, categoryOf, emojiOf, selectorOf, indexOf, packed}

@@ -14,22 +14,23 @@ use Rattle.records.specs.Text.{cell}
 use Rattle.records.specs.Refusals.{refuse, _⊳_, over, judgeWord, judgeLengths, wordVerdict, outside}
 use Rattle.records.specs.declared.Side.{Side}
 use Rattle.records.specs.declared.Side.the-variants.{Record}
+use Rattle.records.specs.declared.Refusal.{Refusal}
 use Rattle.records.specs.declared.Verdict.{Verdict}
 use Rattle.records.specs.declared.Verdict.the-variants.{Accepted, Refused}
 use Rattle.words.specs.declared.Next.the-variants.{Class, End}
 use Rattle.words.specs.Step.{nextCodes}
 use Rattle.words.specs.Run.{nextAt}
 
-never : {A : Type 0} (number : ℕ) (side : Side) (index : ℕ) → Refused number side index ≡ Accepted → A
-never number side index h = let z : _≡_ {A = ℕ} 0 1 = cc in absurd (omega arith)
+never : {A : Type 0} {r : Refusal} → Refused r ≡ Accepted → A
+never h = let z : _≡_ {A = ℕ} 0 1 = cc in absurd (omega arith)
 
 first-accepted : (first later : Verdict) → first ⊳ later ≡ Accepted → first ≡ Accepted
 first-accepted Accepted later h = refl
-first-accepted (Refused number side index) later h = h
+first-accepted (Refused r) later h = h
 
 later-accepted : (first later : Verdict) → first ⊳ later ≡ Accepted → later ≡ Accepted
 later-accepted Accepted later h = h
-later-accepted (Refused number side index) later h = never number side index h
+later-accepted (Refused r) later h = never h
 
 over-accepted : (judge : ℕ → Verdict) (n i k : ℕ) → k < n → over judge i n ≡ Accepted → judge (i + k) ≡ Accepted
 unfolding over
@@ -40,7 +41,7 @@ over-accepted judge (suc n) i (suc k) h a =
     rw e at (over-accepted judge n (i + 1) k (omega arith) (later-accepted (judge i) (over judge (i + 1) n) a))
 
 unrefused : (test : Bool) (number : ℕ) (side : Side) (index : ℕ) → refuse test number side index ≡ Accepted → test ≡ false
-unrefused true number side index h = never number side index h
+unrefused true number side index h = never h
 unrefused false number side index h = refl
 
 neither : (a b : Bool) → a || b ≡ false → (a ≡ false) × (b ≡ false)

@@ -2,7 +2,7 @@
 -- Assumes nothing.
 use Prim.Native.Nat.{ℕ, zero, suc, _+_, _<_, _≤_}
 use mathlib.Core.Path.{_≡_, refl, sym, _∙_, ap}
-use mathlib.Core.List.{List, [], _∷_, _++_, append-assoc}
+use mathlib.Core.List.{List, [], _++_, append-assoc}
 use mathlib.Core.Logic.{⊎-elim}
 use native.Mathlib.Nat.{eq-or-lt-of-le}
 use native.Mathlib.Omega.{arith}
@@ -15,9 +15,9 @@ use Rattle.words.specs.declared.WordStep.{WordStep}
 use Rattle.words.specs.declared.Next.{Next}
 use Rattle.words.specs.Rules.{ruled}
 use Rattle.words.specs.Run.{nextAt, stateAt, answerAt, answers, runVerdict, runCells}
-use Rattle.records.specs.Refusals.{wordVerdict}
-use Rattle.records.specs.declared.Side.{Side}
+use Rattle.records.specs.Refusals.{refusal, wordVerdict}
 use Rattle.records.specs.declared.Side.the-variants.{Neither}
+use Rattle.records.specs.declared.Refusal.{Refusal}
 use Rattle.records.specs.declared.Verdict.{Verdict}
 use Rattle.records.specs.declared.Verdict.the-variants.{Accepted, Refused}
 use borrow.Author.Tests.{lt-ltb, le-ltb}
@@ -67,11 +67,11 @@ module _ (words pictographs out : List ℕ) (v : Verdict) (e : v ≡ wordVerdict
   abbrev Ran : Verdict → List ℕ → Type 0
   Ran r cells = (r ≡ runVerdict words pictographs (length out)) × (cells ≡ runCells words pictographs out)
 
-  pub ran-refused : (number : ℕ) (side : Side) (index : ℕ) → v ≡ Refused number side index → Ran v out
+  pub ran-refused : (r : Refusal) → v ≡ Refused r → Ran v out
   unfolding runVerdict
-  ran-refused number side index h = rw (← e, h) (refl, refl)
+  ran-refused r h = rw (← e, h) (refl, refl)
 
-  pub ran-short : v ≡ Accepted → length out < length words → Ran (Refused 9 Neither 0) out
+  pub ran-short : v ≡ Accepted → length out < length words → Ran (Refused (refusal 9 Neither 0)) out
   unfolding runVerdict
   ran-short h short = rw (← e, h, lt-ltb _ _ short) (refl, refl)
 

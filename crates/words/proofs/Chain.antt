@@ -4,17 +4,19 @@ use Prim.Native.Nat.{ℕ}
 use mathlib.Core.Path.{_≡_}
 use mathlib.Core.Bool.{Bool, true, false}
 use mathlib.Core.List.{List}
-use Rattle.records.specs.Refusals.{member, outside}
+use Rattle.basics.proofs.Choices.{or-last}
+use Rattle.basics.specs.Choices.{_⇒_▹_}
+use Rattle.basics.specs.Sets.{member}
+use Rattle.records.specs.Refusals.{outside}
 use Rattle.words.specs.declared.WordState.{WordState}
 use Rattle.words.specs.declared.WordStep.{WordStep}
 use Rattle.words.specs.declared.Exit.{Exit}
 use Rattle.words.specs.declared.Next.{Next}
 use Rattle.words.specs.declared.Next.the-variants.{Class}
-use Rattle.words.specs.Rules.{_⇒_▹_, leaves, nextIn, ruled}
+use Rattle.words.specs.Rules.{leaves, nextIn, ruled}
 use Rattle.words.specs.Step.{nextCodes, stepVerdict, stepOf}
 use Rattle.classes.specs.WordBreak as WordBreak
-use Rattle.records.proofs.Chain.{or-last}
-use Rattle.records.specs.declared.Side.{Side}
+use Rattle.records.specs.declared.Refusal.{Refusal}
 use Rattle.records.specs.declared.Verdict.{Verdict}
 use Rattle.records.specs.declared.Verdict.the-variants.{Accepted, Refused}
 use lib.Dec.{leb}
@@ -43,8 +45,8 @@ by-code next x r e k = rw e (or-last _ r k)
 
 -- v is what the judge said
 module _ (s : WordState) (class pictograph : ℕ) (next : Next) (v : Verdict) (e : v ≡ stepVerdict s class pictograph next) where
-  pub step-refused : (number : ℕ) (side : Side) (index : ℕ) → v ≡ Refused number side index → record { state = s; answer = 0; verdict = v } ≡ stepOf s class pictograph next
-  step-refused number side index h = rw (← e, h)
+  pub step-refused : (r : Refusal) → v ≡ Refused r → record { state = s; answer = 0; verdict = v } ≡ stepOf s class pictograph next
+  step-refused r h = rw (← e, h)
 
   pub step-passed : (r : WordStep) → v ≡ Accepted → r ≡ ruled s class pictograph next → r ≡ stepOf s class pictograph next
   step-passed r h k = rw (← e, h) k

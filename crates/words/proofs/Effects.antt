@@ -6,13 +6,14 @@ use mathlib.Core.Bool.{Bool, true, false, cond, _&&_}
 use native.Mathlib.Omega.{arith}
 use lib.Dec.{eqb, leb}
 use borrow.Author.Tests.{leb-false}
+use Rattle.basics.specs.Choices.{_⇒_▹_}
 use Rattle.classes.specs.WordBreak.{RI}
 use Rattle.records.specs.declared.Verdict.the-variants.{Accepted}
 use Rattle.words.specs.declared.WordState.{WordState}
 use Rattle.words.specs.declared.Next.{Next}
 use Rattle.words.specs.declared.Exit.{Exit}
 use Rattle.words.specs.declared.Exit.the-variants.{Begun, Released, Joined, Parted, Ignored, Held, Opened, Paired}
-use Rattle.words.specs.Rules.{_⇒_▹_, flagRules, numberRules, letterRules, pairRules, exitOf, leaves}
+use Rattle.words.specs.Rules.{flagRules, numberRules, letterRules, pairRules, exitOf, leaves}
 
 pub leaves-bit : (s : WordState) (b : ℕ) (exit : Exit) → leaves s b exit .answer ≤ 1
 unfolding leaves

@@ -13,7 +13,7 @@ use borrow.Author.Tests.{lt-leb, le-ltb, ltb-false}
 use Rattle.classes.specs.WordBreak as WordBreak
 use Rattle.records.specs.Text.{cell}
 use Rattle.records.specs.Refusals.{wordVerdict}
-use Rattle.records.specs.declared.Side.{Side}
+use Rattle.records.specs.declared.Refusal.{Refusal}
 use Rattle.records.specs.declared.Verdict.{Verdict}
 use Rattle.records.specs.declared.Verdict.the-variants.{Accepted, Refused}
 use Rattle.records.proofs.Unique.{unique}
@@ -28,7 +28,7 @@ use Rattle.words.proofs.Accepted.{fine, fine-class, fine-next}
 use Rattle.words.proofs.Answers.{answers-length, answers-cell}
 use Rattle.words.proofs.Effects.{leaves-bit, leaves-class, leaves-accepts, leaves-small, exit-small}
 
--- "A first record answers 1", of any state that is first, whatever comes, and so of every run.
+-- WB1: the answer is 1, of any state that is first, whatever comes, and so of every run.
 pub first-answers : (s : WordState) (b pictograph : ℕ) (next : Next) → s .first ≡ true → ruled s b pictograph next .answer ≡ 1
 unfolding exitOf leaves
 first-answers s b pictograph next h = rw h
@@ -37,12 +37,12 @@ pub run-begins : (words pictographs : List ℕ) → answerAt words pictographs 0
 unfolding answerAt stateAt exitOf leaves
 run-begins words pictographs = refl
 
--- "One 0 or 1 a record".
+-- Every answer is 0 or 1.
 pub answer-bit : (words pictographs : List ℕ) (i : ℕ) → answerAt words pictographs i ≤ 1
 unfolding answerAt
 answer-bit words pictographs i = leaves-bit _ _ _
 
--- "A count of 0 to 2": it stays so over one record, and so it is before every record of every run.
+-- "A count of RI from 0 to 2" (SCOPE 7.1): it stays so over one record, and so it is before every record of every run.
 pub rule-small : (s : WordState) (b pictograph : ℕ) (next : Next) → s .count ≤ 2 → ruled s b pictograph next .state .count ≤ 2
 rule-small s b pictograph next h = leaves-small s b h (exit-small s b pictograph next)
 
@@ -116,8 +116,8 @@ module _ (words words′ pictographs pictographs′ : List ℕ) where
       ap (λ (r : WordStep). r .state)
       (steps-agree i i (states-alike i (λ k h. w k (omega arith)) (λ k h. p k (omega arith))) (w i (omega arith)) (p i (omega arith)) (w (i + 1) (omega arith)))
 
-  -- "The look-ahead is the next record only": two texts have the same answer at a record where their classes agree up to the next
-  -- record (they are the same, or both texts have ended) and their marks up to the record itself, whatever follows.
+  -- The step "looks no further ahead" than the next record (SCOPE 7.2): two texts have the same answer at a record where their classes
+  -- agree up to the next record (they are the same, or both texts have ended) and their marks up to the record itself, whatever follows.
   pub answers-alike : (i : ℕ) → ((k : ℕ) → k ≤ i + 1 → nextAt words k ≡ nextAt words′ k) → ((k : ℕ) → k ≤ i → cell pictographs k ≡ cell pictographs′ k)
       → answerAt words pictographs i ≡ answerAt words′ pictographs′ i
   answers-alike i w p =
@@ -125,8 +125,8 @@ module _ (words words′ pictographs pictographs′ : List ℕ) where
 
 -- The cells after a run: with a refusal as they were, else a record's cell has its answer, and a cell past the records is as it was.
 module _ (words pictographs out : List ℕ) where
-  pub refused-keeps : (number : ℕ) (side : Side) (index : ℕ) → runVerdict words pictographs (length out) ≡ Refused number side index → runCells words pictographs out ≡ out
-  refused-keeps number side index e = rw e
+  pub refused-keeps : (r : Refusal) → runVerdict words pictographs (length out) ≡ Refused r → runCells words pictographs out ≡ out
+  refused-keeps r e = rw e
 
   pub record-cell : (i : ℕ) → i < length words → runVerdict words pictographs (length out) ≡ Accepted → cell (runCells words pictographs out) i ≡ answerAt words pictographs i
   record-cell i h e =
@@ -140,7 +140,7 @@ module _ (words pictographs out : List ℕ) where
       (rw (answers-length words pictographs (length words)) at (getD-append-add (answers words pictographs (length words)) (drop (length words) out) k 0)
       ∙ getD-drop (length words) out k 0)
 
--- "Uniqueness is shown"
+-- no two results fulfil the contracts (SCOPE 10)
 pub word-step-unique : (s : WordState) (class pictograph : ℕ) (next : Next) (a b : WordStep) → a ≡ stepOf s class pictograph next → b ≡ stepOf s class pictograph next → a ≡ b
 word-step-unique s class pictograph next = unique (stepOf s class pictograph next)
 

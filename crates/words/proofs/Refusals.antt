@@ -1,4 +1,4 @@
--- The refusals of the word run and of the word step: each says what document 01's table says. Assumes nothing.
+-- The refusals of the word run and of the word step: each says what the table of SCOPE 5.1 says. Assumes nothing.
 use Prim.Native.Nat.{ℕ}
 use mathlib.Core.Path.{_≡_, refl, sym, _∙_, ap}
 use mathlib.Core.Bool.{Bool, true, false}
@@ -41,7 +41,7 @@ module _ (s : WordState) (class pictograph : ℕ) (next : Next) where
 
   step-says : (v : Verdict) → (stepUnder v s class pictograph next) .verdict ≡ v
   step-says Accepted = leaves-accepts s class (exitOf s class pictograph next)
-  step-says (Refused number side index) = refl
+  step-says (Refused r) = refl
 
   -- The step's refusals: 4 of the record, index 0, and 8.
   pub word-step-by-table : ByTable (4 ∷ 8 ∷ []) (stepTable s class pictograph next) ((stepOf s class pictograph next) .verdict)

@@ -7,8 +7,9 @@ use Prim.Native.Nat.{ℕ, _+_}
 use mathlib.Core.Bool.{Bool, true, false, cond, _&&_, _||_}
 use mathlib.Core.List.{List, [], _∷_}
 use lib.Dec.{eqb, leb}
+use Rattle.basics.specs.Choices.{_⇒_▹_}
+use Rattle.basics.specs.Sets.{member}
 use Rattle.classes.specs.WordBreak.{CR, LF, NL, Extend, ZWJ, FO, WSegSpace, ALetter, HL, ML, MidNumLet, MN, NU, SQ, DQ, KA, EX, RI}
-use Rattle.records.specs.Refusals.{member}
 use Rattle.records.specs.declared.Verdict.the-variants.{Accepted}
 use Rattle.words.specs.declared.WordState.{WordState}
 use Rattle.words.specs.declared.WordStep.{WordStep}
@@ -17,8 +18,8 @@ use Rattle.words.specs.declared.Next.the-variants.{Class, End}
 use Rattle.words.specs.declared.Exit.{Exit}
 use Rattle.words.specs.declared.Exit.the-variants.{Begun, Released, Joined, Parted, Ignored, Held, Opened, Paired}
 
--- "the two word sets are UAX #29's AHLetter (ALetter, Hebrew_Letter) and MidNumLetQ (MidNumLet, Single_Quote)"; the Rust writes LE for
--- ALetter and MB for MidNumLet
+-- "AHLetter is ALetter and HL, MidNumLetQ is MidNumLet and SQ" (SCOPE 7.2), as in UAX #29; the Rust writes LE for ALetter and MB for
+-- MidNumLet
 abbrev pub AHLetter : List ℕ
 AHLetter = ALetter ∷ HL ∷ []
 
@@ -33,7 +34,7 @@ newlines = NL ∷ CR ∷ LF ∷ []
 abbrev pub ignorable : List ℕ
 ignorable = Extend ∷ FO ∷ ZWJ ∷ []
 
--- "The look-ahead is the next record only": `if let Some(c) = iter.clone().next()`
+-- "it looks no further ahead" (SCOPE 7.2) than to the next record: `if let Some(c) = iter.clone().next()`
 abbrev pub nextIn : List ℕ → Next → Bool
 nextIn classes (Class c) = member classes c
 nextIn classes End = false
@@ -89,11 +90,6 @@ toExtender a b = eqb b EX && member (EX ∷ KA ∷ NU ∷ AHLetter) a
 -- WB13b: ExtendNumLet × (AHLetter | Numeric | Katakana)
 abbrev pub fromExtender : ℕ → ℕ → Bool
 fromExtender a b = eqb a EX && member (KA ∷ NU ∷ AHLetter) b
-
--- an exit where the test holds, and what comes later where it does not
-infixr 20 _⇒_▹_
-abbrev pub _⇒_▹_ : Bool → Exit → Exit → Exit
-test ⇒ exit ▹ later = cond test exit later
 
 -- from `a == CR && b == LF` on
 unfoldable pub pairRules : ℕ → ℕ → ℕ → Exit → Exit
@@ -170,7 +166,7 @@ told previous prevent count answer =
 
 -- each exit's writes: to `prev` (b unless it is put back), to `prevent_next`, to `ri_count` (`reset_state` makes it 0), and the answer
 unfoldable pub leaves : WordState → ℕ → Exit → WordStep
--- "a first record answers 1 and makes the count 1 for RI"; nothing else is written
+-- WB1: the count is 1 for RI; nothing else is written
 leaves s b Begun = told b (s .prevent) (cond (eqb b RI) 1 (s .count)) 1
 -- `prevent_next = false; return false`: the count is not reset here
 leaves s b Released = told b false (s .count) 0

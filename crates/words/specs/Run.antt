@@ -38,14 +38,14 @@ unfoldable pub answers : List ℕ → List ℕ → ℕ → List ℕ
 answers words pictographs zero = []
 answers words pictographs (suc i) = answers words pictographs i ++ (answerAt words pictographs i ∷ [])
 
--- "The word run takes two columns (word class, pictograph) and checks 1, 2, 4 and 9, in that order"; 9 is "fewer cells than records"
+-- the word run, "over the columns word class and pictograph alone": 1, 2, 4, 9 (SCOPE 5.5); 9 is "fewer than 1 for each record"
 unfoldable pub runVerdict : List ℕ → List ℕ → ℕ → Verdict
 runVerdict words pictographs cells = wordVerdict words pictographs ⊳ refuse (ltb cells (length words)) 9 Neither 0
 
--- "Cells past the written ones keep their content", and with a refusal all of them
+-- "Cells after the last record stay as they were" (SCOPE 7.3), and with a refusal all of them
 abbrev pub cellsUnder : Verdict → List ℕ → List ℕ → List ℕ → List ℕ
 cellsUnder Accepted words pictographs out = answers words pictographs (length words) ++ drop (length words) out
-cellsUnder (Refused number side index) words pictographs out = out
+cellsUnder (Refused r) words pictographs out = out
 
 -- what stands in the lent column after a run
 abbrev pub runCells : List ℕ → List ℕ → List ℕ → List ℕ

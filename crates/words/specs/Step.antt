@@ -14,7 +14,7 @@ use Rattle.words.specs.declared.Next.{Next}
 use Rattle.words.specs.declared.Next.the-variants.{Class, End}
 use Rattle.words.specs.Rules.{ruled}
 
--- "Start state: first, Other, no, 0"
+-- "`WordState::START` is first, Other, no, 0." (SCOPE 7.1)
 abbrev pub startState : WordState
 startState = record { first = true; previous = WordBreak.Other; prevent = false; count = 0 }
 
@@ -27,20 +27,19 @@ nextCodes End = []
 abbrev pub badRecord : ℕ → ℕ → Next → Bool
 badRecord class pictograph next = outside (coded class WordBreak.len ∷ mark pictograph ∷ nextCodes next)
 
--- "a state with a code outside the list or a count above 2"
+-- "of a word state: its class is not in the list, or its count is 3 or more" (SCOPE 5.1)
 abbrev pub badState : WordState → Bool
 badState s = leb WordBreak.len (s .previous) || ltb 2 (s .count)
 
--- "it refuses 4 (record, index 0) for a bad class or mark, then 8"
+-- "4 (record, index 0) for the record's class, its mark or the class of the next record, then 8" (SCOPE 5.5)
 unfoldable pub stepVerdict : WordState → ℕ → ℕ → Next → Verdict
 stepVerdict s class pictograph next =
     refuse (badRecord class pictograph next) 4 Record 0 ⊳ refuse (badState s) 8 Neither 0
 
--- "a refusal hands back the same state and the answer 0"
+-- with a refusal "the state that it was given and the answer 0" (SCOPE 5.4)
 abbrev pub stepUnder : Verdict → WordState → ℕ → ℕ → Next → WordStep
 stepUnder Accepted s class pictograph next = ruled s class pictograph next
-stepUnder (Refused number side index) s class pictograph next =
-    record { state = s; answer = 0; verdict = Refused number side index }
+stepUnder (Refused r) s class pictograph next = record { state = s; answer = 0; verdict = Refused r }
 
 abbrev pub stepOf : WordState → ℕ → ℕ → Next → WordStep
 stepOf s class pictograph next = stepUnder (stepVerdict s class pictograph next) s class pictograph next

@@ -130,7 +130,7 @@ impl WordState {
         pair_exit(self.previous, class, pictograph, next, self.count)
     }
 
-    // Of a first record "only RI sets the count".
+    // Of a first record only RI sets the count.
     pub(crate) fn begun(self, class: u8) -> WordStep
         ensures { λ r. ⌜ r ≡ leaves self class Exit.Begun ⌝ }
     {

@@ -2,11 +2,11 @@
 use crate::Next;
 use crate::WordState;
 use classes::word_break;
+use records::Refusal;
 use records::Side;
 use records::Verdict;
 use records::is_outside;
 ghost use mathlib.Core.Path.{_≡_};
-ghost use Rattle.classes.specs.WordBreak as WordBreak;
 ghost use Rattle.records.specs.Refusals.{outside};
 ghost use Rattle.words.specs.Step.{nextCodes, badRecord, badState, stepVerdict};
 
@@ -48,18 +48,18 @@ impl WordState {
         ensures { λ r. ⌜ r ≡ stepVerdict self class pictograph next ⌝ }
     {
         if is_bad_record(class, pictograph, next) {
-            return Verdict::Refused {
+            return Verdict::Refused(Refusal {
                 number: 4,
                 side: Side::Record,
                 index: 0,
-            };
+            });
         }
         if self.is_bad() {
-            return Verdict::Refused {
+            return Verdict::Refused(Refusal {
                 number: 8,
                 side: Side::Neither,
                 index: 0,
-            };
+            });
         }
         Verdict::Accepted
     }

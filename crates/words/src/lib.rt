@@ -5,6 +5,7 @@ mod rules;
 mod sets;
 
 use classes::word_break;
+use records::Refusal;
 use records::Side;
 use records::Verdict;
 use records::cells::cell8;
@@ -124,11 +125,11 @@ pub fn run(words: &[u8], pictographs: &[u8], out: &mut [u8]) -> Verdict
         return checked;
     };
     if out.len() < words.len() {
-        return Verdict::Refused {
+        return Verdict::Refused(Refusal {
             number: 9,
             side: Side::Neither,
             index: 0,
-        };
+        });
     }
     write_answers(words, pictographs, out);
     Verdict::Accepted

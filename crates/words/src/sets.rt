@@ -3,8 +3,8 @@ use crate::Next;
 use classes::word_break;
 ghost use mathlib.Core.Path.{_≡_};
 ghost use mathlib.Core.List.{[], _∷_};
+ghost use Rattle.basics.specs.Sets.{member};
 ghost use Rattle.classes.specs.WordBreak.{ML, MN, NU, KA};
-ghost use Rattle.records.specs.Refusals.{member};
 ghost use Rattle.words.specs.Rules.{AHLetter, MidNumLetQ, newlines, ignorable, nextIn};
 
 pub fn is_newline(class: u8) -> bool

@@ -59,8 +59,8 @@ fn info(cluster: &CharCluster) -> String {
     format!("{emoji}{space}{broken}{normalize}")
 }
 
-/// With each of the four settings of the flags that document 01 leaves out: they "never change
-/// an answer", nor the state that it keeps.
+/// With each of the four settings of the two flags that are left out (SCOPE 7.1): no answer depends
+/// on them, nor does the state that is kept.
 fn step(state: State, record: Record, next: Option<WordBreak>) -> String {
     let settings = [(false, false), (false, true), (true, false), (true, true)];
     let [one, rest @ ..] = settings.map(|flags| words::step(state, flags, record, next));

@@ -1,5 +1,5 @@
 //! The lines of cases in crate mode. `None` for all that is not the oracle's business; whether
-//! document 01 accepts a text is said here a second time, without the refusal's number.
+//! a text is accepted (SCOPE 5) is said here a second time, without the refusal's number.
 
 use crate::text::cluster::{CharInfo, Token};
 use crate::text::words::{Record as WordRecord, State};

@@ -1,6 +1,6 @@
 //! The judge of crate mode: the parsers of swash 0.2.10, unchanged, over lent columns.
 //! Reads cases from standard input and prints one line of answers for each. Lines that are
-//! not its business (whole mode, full runs, texts that document 01 refuses, lines not of the
+//! not its business (whole mode, full runs, texts that are refused (SCOPE 5), lines not of the
 //! layout) are answered `-`.
 
 #![allow(dead_code, unused_imports)] // mod.rs names more than the parsers need.

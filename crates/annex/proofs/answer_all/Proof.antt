@@ -11,8 +11,8 @@ abbrev μ-loop : tie.MeasureT-loop
 loop-holds : tie.Need-loop-holds Inv-loop μ-loop
 loop-holds c = search needs
 
-part-at-requires : tie.Need-part-at-requires Inv-loop μ-loop
-part-at-requires c κs = search needs
+span-at-requires : tie.Need-span-at-requires Inv-loop μ-loop
+span-at-requires c κs = search needs
 
 answer-requires : tie.Need-answer-requires Inv-loop μ-loop
 answer-requires c κs = search needs
@@ -39,7 +39,7 @@ answer-all-spec =
     Inv-loop
     μ-loop
     loop-holds
-    part-at-requires
+    span-at-requires
     answer-requires
     next-of-requires
     sub-turns

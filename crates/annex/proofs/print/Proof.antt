@@ -14,11 +14,11 @@ abbrev μ-loop : tie.MeasureT-loop
 loop-holds : tie.Need-loop-holds Inv-loop μ-loop
 loop-holds c = search needs
 
-element-copy-out-sign : tie.Need-element-copy-out-sign Inv-loop μ-loop
-element-copy-out-sign c = search needs
+element-copy-out-digit : tie.Need-element-copy-out-digit Inv-loop μ-loop
+element-copy-out-digit c = search needs
 
-sign-requires : tie.Need-sign-requires Inv-loop μ-loop
-sign-requires c κs = search needs
+digit-requires : tie.Need-digit-requires Inv-loop μ-loop
+digit-requires c κs = search needs
 
 array-write-text : tie.Need-array-write-text Inv-loop μ-loop
 array-write-text c = search needs
@@ -48,8 +48,8 @@ print-spec =
     Inv-loop
     μ-loop
     loop-holds
-    element-copy-out-sign
-    sign-requires
+    element-copy-out-digit
+    digit-requires
     array-write-text
     add-i
     loop-less

@@ -5,14 +5,14 @@ use borrow.Author.Needs.{needs}
 use Rattle.annex.proofs.write_first.Statement.{statement}
 use Rattle.annex.proofs.write_first.Tie as tie
 
-add-write-all : tie.Need-add-write-all
-add-write-all c = search needs
+add-write : tie.Need-add-write
+add-write c = search needs
 
-slice-aggregate-write-all : tie.Need-slice-aggregate-write-all
-slice-aggregate-write-all c = sym (length-take-le _ _ (omega arith))
+slice-aggregate-write : tie.Need-slice-aggregate-write
+slice-aggregate-write c = sym (length-take-le _ _ (omega arith))
 
-write-all-requires : tie.Need-write-all-requires
-write-all-requires c κs = search needs
+write-requires : tie.Need-write-requires
+write-requires c κs = search needs
 
 returns : tie.Need-returns
 returns c = search needs
@@ -23,4 +23,4 @@ returns-2 c = search needs
 pub write-first-spec : {M : Type 1} → statement M
 write-first-spec =
     tie.close
-    (tie.spec add-write-all slice-aggregate-write-all write-all-requires returns returns-2)
+    (tie.spec add-write slice-aggregate-write write-requires returns returns-2)

@@ -1,6 +1,6 @@
 use borrow.Author.Needs.{needs}
 use Rattle.records.specs.Text.{textOf}
-use Rattle.reader.proofs.Left.{turns, turn-falls, turns-end}
+use Rattle.segment.proofs.Left.{turns, turn-falls, turns-end}
 use Rattle.display.proofs.show.Statement.{statement}
 use Rattle.display.proofs.show.Tie as tie
 

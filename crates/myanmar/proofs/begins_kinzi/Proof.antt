@@ -1,5 +1,5 @@
 -- `myanmar::begins_kinzi` meets its contract. Assumes nothing.
-use Rattle.parse.proofs.Rules.{members}
+use Rattle.basics.proofs.Sets.{members}
 use Rattle.myanmar.proofs.begins_kinzi.Statement.{statement}
 use Rattle.myanmar.proofs.begins_kinzi.Tie as tie
 

@@ -1,5 +1,5 @@
 -- `myanmar::is_alone_class` meets its contract. Assumes nothing.
-use Rattle.parse.proofs.Rules.{members}
+use Rattle.basics.proofs.Sets.{members}
 use Rattle.myanmar.proofs.is_alone_class.Statement.{statement}
 use Rattle.myanmar.proofs.is_alone_class.Tie as tie
 

@@ -33,7 +33,7 @@ refused-requires : tie.Need-refused-requires
 refused-requires c κs = search needs
 
 returns-2 : tie.Need-returns-2
-returns-2 c = ran-refused _ _ _ _ _ _ _ _ (c .before .before .before .before .check-in .ensures) _ _ _ (c .before .before .verdict .given .1) (c .refused .ensures)
+returns-2 c = ran-refused _ _ _ _ _ _ _ _ (c .before .before .before .before .check-in .ensures) _ (c .before .before .verdict .given .1) (c .refused .ensures)
 
 pub run-in-spec : {M : Type 1} → statement M
 run-in-spec =

@@ -13,7 +13,7 @@ enum-told-2 : tie.Need-enum-told-2
 enum-told-2 c = search needs
 
 returns : tie.Need-returns
-returns c = ran-refused _ _ _ _ (c .before .before .check-words .ensures) _ _ _ (c .enum-told2 .given .1)
+returns c = ran-refused _ _ _ _ (c .before .before .check-words .ensures) _ (c .enum-told2 .given .1)
 
 returns-2 : tie.Need-returns-2
 returns-2 c = ran-short _ _ _ _ (c .before .before .before .check-words .ensures) (c .before .enum-told .given .1) (c .if1 .taken)

@@ -8,7 +8,7 @@ impl Properties {
         Self { word, pictograph, ..Self::default() }
     }
 
-    /// "Parts are never split again", and "a part's emoji mark is no".
+    /// A part is never split, and as a token it is no emoji (SCOPE 2.1, 3.1).
     pub fn use_class(&self) -> (UseClass, bool, bool) {
         (self.use_class, false, false)
     }

@@ -1,4 +1,4 @@
-//! The lists of document 01 in its order, under the names that the Rust has for them.
+//! The lists of SCOPE 2.2 in their order, under the names that the Rust has for them.
 
 macro_rules! list {
     ($name:ident: $($value:ident)*) => {

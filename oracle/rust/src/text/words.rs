@@ -29,7 +29,7 @@ pub fn properties(ch: char) -> Properties {
     Properties::of_word(WordBreak::from_code(code / 2).unwrap(), code % 2 == 1)
 }
 
-/// One step from a state, with the two flags of the Rust's state that document 01 leaves out.
+/// One step from a state, with the two flags of the Rust's state that are left out (SCOPE 7.1).
 pub fn step(state: State, flags: (bool, bool), record: Record, next: Option<WordBreak>) -> (bool, State) {
     Lent::Words.lend();
     let mut inner = BoundaryState {

@@ -1,9 +1,10 @@
 use lib.Seq.{length-take-le}
 use native.Mathlib.Omega.{arith}
+use Rattle.cases.specs.Numbers.{most16}
 use Rattle.cases.proofs.Fields.{Filled, column-more}
 use Rattle.cases.proofs.Splits.{rest-more}
 use Rattle.cases.specs.Items.{cellOf, cells}
-use Rattle.cases.specs.Parts.{rest}
+use Rattle.cases.specs.Spans.{rest}
 use lib.ListN.{length, drop}
 use mathlib.Core.Path.{_≡_, refl, sym}
 use Prim.Native.Nat.{_-_, _≤_}
@@ -12,7 +13,7 @@ use Rattle.cases.proofs.columns.column16.Statement.{statement}
 use Rattle.cases.proofs.columns.column16.Tie as tie
 
 abbrev Inv-loop : tie.InvT-loop
-Inv-loop section k n out₀ most at₀ i₀ out at i = (i ≤ most) × ((length out ≡ length out₀) × ((drop at section ≡ rest 32 i section) × Filled (cellOf 10 65535 k section) out₀ i out))
+Inv-loop section k n out₀ most at₀ i₀ out at i = (i ≤ most) × ((length out ≡ length out₀) × ((drop at section ≡ rest 32 i section) × Filled (cellOf 10 most16 k section) out₀ i out))
 
 abbrev μ-loop : tie.MeasureT-loop
 μ-loop section k n out₀ most at₀ i₀ out at i = most - i
@@ -23,8 +24,8 @@ least-requires c κs = search needs
 loop-holds : tie.Need-loop-holds Inv-loop μ-loop
 loop-holds c = unfold rest cells in (search needs, (refl, (refl, refl)))
 
-part-at-requires : tie.Need-part-at-requires Inv-loop μ-loop
-part-at-requires c κs = search needs
+span-at-requires : tie.Need-span-at-requires Inv-loop μ-loop
+span-at-requires c κs = search needs
 
 field16-requires : tie.Need-field16-requires Inv-loop μ-loop
 field16-requires c κs = search needs
@@ -45,7 +46,7 @@ loop-less : tie.Need-loop-less Inv-loop μ-loop
 loop-less c = search needs
 
 loop-again : tie.Need-loop-again Inv-loop μ-loop
-loop-again c = (search needs, (search needs, (search rest-more, column-more _ _ _ _ _ (c .before .before .before .before .loop .at) (c .before .before .before .before .loop .inv .1 .1 .0) _ (c .before .before .part-at .ensures) _ (c .before .field16 .ensures) _ _ (omega arith) (c .before .before .before .before .loop .inv .1 .1 .1))))
+loop-again c = (search needs, (search needs, (search rest-more, column-more _ _ _ _ _ (c .before .before .before .before .loop .at) (c .before .before .before .before .loop .inv .1 .1 .0) _ (c .before .before .span-at .ensures) _ (c .before .field16 .ensures) _ _ (omega arith) (c .before .before .before .before .loop .inv .1 .1 .1))))
 
 same-length : tie.Need-same-length Inv-loop μ-loop
 same-length c = search needs
@@ -63,7 +64,7 @@ column16-spec =
     μ-loop
     least-requires
     loop-holds
-    part-at-requires
+    span-at-requires
     field16-requires
     mul-out
     slice-write-out

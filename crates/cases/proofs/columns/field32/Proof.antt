@@ -3,8 +3,8 @@ use borrow.Author.Needs.{needs}
 use Rattle.cases.proofs.columns.field32.Statement.{statement}
 use Rattle.cases.proofs.columns.field32.Tie as tie
 
-part-requires : tie.Need-part-requires
-part-requires c κs = search needs
+span-requires : tie.Need-span-requires
+span-requires c κs = search needs
 
 read-number-requires : tie.Need-read-number-requires
 read-number-requires c κs = search needs
@@ -24,4 +24,4 @@ returns-2 c = search fields
 pub field32-spec : {M : Type 1} → statement M
 field32-spec =
     tie.close
-    (tie.spec part-requires read-number-requires enum-known-v enum-told returns returns-2)
+    (tie.spec span-requires read-number-requires enum-known-v enum-told returns returns-2)

@@ -6,8 +6,8 @@ use borrow.Author.Needs.{needs}
 use Rattle.cases.proofs.columns.field8.Statement.{statement}
 use Rattle.cases.proofs.columns.field8.Tie as tie
 
-part-requires : tie.Need-part-requires
-part-requires c κs = search needs
+span-requires : tie.Need-span-requires
+span-requires c κs = search needs
 
 read-number-requires : tie.Need-read-number-requires
 read-number-requires c κs = search needs
@@ -31,7 +31,7 @@ pub field8-spec : {M : Type 1} → statement M
 field8-spec =
     tie.close
     (tie.spec
-    part-requires
+    span-requires
     read-number-requires
     enum-known-v
     cast-result

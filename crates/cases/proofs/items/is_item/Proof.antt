@@ -1,7 +1,7 @@
 use native.Mathlib.Omega.{arith}
+use Rattle.basics.specs.Sets.{every}
 use Rattle.cases.proofs.Fields.{item-uneven, item-more, item-fails, item-all}
 use Rattle.cases.specs.Items.{fieldFits}
-use Rattle.cases.specs.Parts.{allBelow}
 use mathlib.Core.Bool.{true}
 use mathlib.Core.Path.{_≡_, refl}
 use Prim.Native.Nat.{_+_, _-_, _≤_}
@@ -10,7 +10,7 @@ use Rattle.cases.proofs.items.is_item.Statement.{statement}
 use Rattle.cases.proofs.items.is_item.Tie as tie
 
 abbrev Inv-loop : tie.InvT-loop
-Inv-loop item kind last k₀ k = (k ≤ last + 1) × (allBelow (fieldFits kind item) k ≡ true)
+Inv-loop item kind last k₀ k = (k ≤ last + 1) × (every (fieldFits kind item) k ≡ true)
 
 abbrev μ-loop : tie.MeasureT-loop
 μ-loop item kind last k₀ k = last + 1 - k
@@ -25,10 +25,10 @@ returns : tie.Need-returns Inv-loop μ-loop
 returns c = search item-uneven
 
 loop-holds : tie.Need-loop-holds Inv-loop μ-loop
-loop-holds c = unfold allBelow in (search needs, refl)
+loop-holds c = unfold every in (search needs, refl)
 
-part-requires : tie.Need-part-requires Inv-loop μ-loop
-part-requires c κs = search needs
+span-requires : tie.Need-span-requires Inv-loop μ-loop
+span-requires c κs = search needs
 
 is-field-requires : tie.Need-is-field-requires Inv-loop μ-loop
 is-field-requires c κs = search needs
@@ -58,7 +58,7 @@ is-item-spec =
     count-requires
     returns
     loop-holds
-    part-requires
+    span-requires
     is-field-requires
     add-k
     loop-less

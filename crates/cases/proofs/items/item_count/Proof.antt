@@ -1,6 +1,5 @@
-use Rattle.cases.proofs.Choices.{choices}
+use Rattle.basics.proofs.Choices.{choices}
 use Rattle.cases.specs.Items.{itemCount}
-use mathlib.Core.Path.{refl}
 use borrow.Author.Needs.{needs}
 use Rattle.cases.proofs.items.item_count.Statement.{statement}
 use Rattle.cases.proofs.items.item_count.Tie as tie

@@ -1,6 +1,5 @@
-use Rattle.cases.proofs.Choices.{choices}
+use Rattle.basics.proofs.Choices.{choices}
 use Rattle.cases.specs.Lines.{fullAsked}
-use mathlib.Core.Path.{refl}
 use Rattle.cases.proofs.lines.full_asked.Statement.{statement}
 use Rattle.cases.proofs.lines.full_asked.Tie as tie
 

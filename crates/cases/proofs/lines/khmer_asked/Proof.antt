@@ -1,6 +1,5 @@
-use Rattle.cases.proofs.Choices.{choices}
+use Rattle.basics.proofs.Choices.{choices}
 use Rattle.cases.specs.Lines.{khmerAsked}
-use mathlib.Core.Path.{refl}
 use Rattle.cases.proofs.lines.khmer_asked.Statement.{statement}
 use Rattle.cases.proofs.lines.khmer_asked.Tie as tie
 

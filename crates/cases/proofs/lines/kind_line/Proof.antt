@@ -1,6 +1,5 @@
 use Rattle.cases.proofs.Asks.{asks}
 use Rattle.cases.specs.Lines.{kindLine}
-use mathlib.Core.Path.{refl}
 use borrow.Author.Needs.{needs}
 use Rattle.cases.proofs.lines.kind_line.Statement.{statement}
 use Rattle.cases.proofs.lines.kind_line.Tie as tie

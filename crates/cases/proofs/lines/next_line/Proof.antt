@@ -6,11 +6,11 @@ use borrow.Author.Needs.{needs}
 use Rattle.cases.proofs.lines.next_line.Statement.{statement}
 use Rattle.cases.proofs.lines.next_line.Tie as tie
 
-part-requires : tie.Need-part-requires
-part-requires c κs = search needs
+span-requires : tie.Need-span-requires
+span-requires c κs = search needs
 
-sign-requires : tie.Need-sign-requires
-sign-requires c κs = search needs
+letter-requires : tie.Need-letter-requires
+letter-requires c κs = search needs
 
 step-to-requires : tie.Need-step-to-requires
 step-to-requires c κs = search needs
@@ -43,8 +43,8 @@ pub next-line-spec : {M : Type 1} → statement M
 next-line-spec =
     tie.close
     (tie.spec
-    part-requires
-    sign-requires
+    span-requires
+    letter-requires
     step-to-requires
     returns
     read-number-requires

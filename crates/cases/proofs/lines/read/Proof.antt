@@ -9,11 +9,11 @@ is-skipped-requires c κs = search needs
 returns : tie.Need-returns
 returns c = search line-skipped
 
-part-requires : tie.Need-part-requires
-part-requires c κs = search needs
+span-requires : tie.Need-span-requires
+span-requires c κs = search needs
 
-sign-requires : tie.Need-sign-requires
-sign-requires c κs = search needs
+letter-requires : tie.Need-letter-requires
+letter-requires c κs = search needs
 
 kind-line-requires : tie.Need-kind-line-requires
 kind-line-requires c κs = search needs
@@ -24,4 +24,4 @@ returns-2 c = search line-read
 pub read-spec : {M : Type 1} → statement M
 read-spec =
     tie.close
-    (tie.spec is-skipped-requires returns part-requires sign-requires kind-line-requires returns-2)
+    (tie.spec is-skipped-requires returns span-requires letter-requires kind-line-requires returns-2)

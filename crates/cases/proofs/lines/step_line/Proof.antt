@@ -1,18 +1,17 @@
 use Rattle.cases.proofs.Asks.{asks}
 use Rattle.cases.specs.Lines.{stepLine}
-use mathlib.Core.Path.{refl}
 use borrow.Author.Needs.{needs}
 use Rattle.cases.proofs.lines.step_line.Statement.{statement}
 use Rattle.cases.proofs.lines.step_line.Tie as tie
 
-part-requires : tie.Need-part-requires
-part-requires c κs = search needs
+span-requires : tie.Need-span-requires
+span-requires c κs = search needs
 
 is-item-requires : tie.Need-is-item-requires
 is-item-requires c κs = search needs
 
-part-requires-2 : tie.Need-part-requires-2
-part-requires-2 c κs = search needs
+span-requires-2 : tie.Need-span-requires-2
+span-requires-2 c κs = search needs
 
 is-item-requires-2 : tie.Need-is-item-requires-2
 is-item-requires-2 c κs = search needs
@@ -33,9 +32,9 @@ pub step-line-spec : {M : Type 1} → statement M
 step-line-spec =
     tie.close
     (tie.spec
-    part-requires
+    span-requires
     is-item-requires
-    part-requires-2
+    span-requires-2
     is-item-requires-2
     next-line-requires
     returns

@@ -3,11 +3,11 @@ use borrow.Author.Needs.{needs}
 use Rattle.cases.proofs.lines.step_to.Statement.{statement}
 use Rattle.cases.proofs.lines.step_to.Tie as tie
 
-part-requires : tie.Need-part-requires
-part-requires c κs = search needs
+span-requires : tie.Need-span-requires
+span-requires c κs = search needs
 
-part-requires-2 : tie.Need-part-requires-2
-part-requires-2 c κs = search needs
+span-requires-2 : tie.Need-span-requires-2
+span-requires-2 c κs = search needs
 
 state-of-requires : tie.Need-state-of-requires
 state-of-requires c κs = search needs
@@ -25,8 +25,8 @@ pub step-to-spec : {M : Type 1} → statement M
 step-to-spec =
     tie.close
     (tie.spec
-    part-requires
-    part-requires-2
+    span-requires
+    span-requires-2
     state-of-requires
     field8-requires
     field8-requires-2

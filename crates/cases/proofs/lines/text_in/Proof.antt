@@ -3,8 +3,8 @@ use borrow.Author.Needs.{needs}
 use Rattle.cases.proofs.lines.text_in.Statement.{statement}
 use Rattle.cases.proofs.lines.text_in.Tie as tie
 
-part-requires : tie.Need-part-requires
-part-requires c κs = search needs
+span-requires : tie.Need-span-requires
+span-requires c κs = search needs
 
 read-number-requires : tie.Need-read-number-requires
 read-number-requires c κs = search needs
@@ -18,8 +18,8 @@ enum-told c = search needs
 returns : tie.Need-returns
 returns c = search texts
 
-part-requires-2 : tie.Need-part-requires-2
-part-requires-2 c κs = search needs
+span-requires-2 : tie.Need-span-requires-2
+span-requires-2 c κs = search needs
 
 count-items-requires : tie.Need-count-items-requires
 count-items-requires c κs = search needs
@@ -33,8 +33,8 @@ enum-told-2 c = search needs
 returns-2 : tie.Need-returns-2
 returns-2 c = search texts
 
-part-requires-3 : tie.Need-part-requires-3
-part-requires-3 c κs = search needs
+span-requires-3 : tie.Need-span-requires-3
+span-requires-3 c κs = search needs
 
 count-items-requires-2 : tie.Need-count-items-requires-2
 count-items-requires-2 c κs = search needs
@@ -55,17 +55,17 @@ pub text-in-spec : {M : Type 1} → statement M
 text-in-spec =
     tie.close
     (tie.spec
-    part-requires
+    span-requires
     read-number-requires
     enum-known-number
     enum-told
     returns
-    part-requires-2
+    span-requires-2
     count-items-requires
     enum-known-records
     enum-told-2
     returns-2
-    part-requires-3
+    span-requires-3
     count-items-requires-2
     enum-known-parts
     enum-told-3

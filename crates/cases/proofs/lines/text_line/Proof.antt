@@ -3,11 +3,11 @@ use borrow.Author.Needs.{needs}
 use Rattle.cases.proofs.lines.text_line.Statement.{statement}
 use Rattle.cases.proofs.lines.text_line.Tie as tie
 
-part-requires : tie.Need-part-requires
-part-requires c κs = search needs
+span-requires : tie.Need-span-requires
+span-requires c κs = search needs
 
-sign-requires : tie.Need-sign-requires
-sign-requires c κs = search needs
+letter-requires : tie.Need-letter-requires
+letter-requires c κs = search needs
 
 asked-of-requires : tie.Need-asked-of-requires
 asked-of-requires c κs = search needs
@@ -31,8 +31,8 @@ pub text-line-spec : {M : Type 1} → statement M
 text-line-spec =
     tie.close
     (tie.spec
-    part-requires
-    sign-requires
+    span-requires
+    letter-requires
     asked-of-requires
     enum-known-parser
     text-moded-requires

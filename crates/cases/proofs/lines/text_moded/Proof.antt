@@ -1,12 +1,11 @@
 use Rattle.cases.proofs.Asks.{asks}
 use Rattle.cases.specs.Lines.{moded}
-use mathlib.Core.Path.{refl}
 use borrow.Author.Needs.{needs}
 use Rattle.cases.proofs.lines.text_moded.Statement.{statement}
 use Rattle.cases.proofs.lines.text_moded.Tie as tie
 
-part-requires : tie.Need-part-requires
-part-requires c κs = search needs
+span-requires : tie.Need-span-requires
+span-requires c κs = search needs
 
 slice-aggregate-same : tie.Need-slice-aggregate-same
 slice-aggregate-same c = search needs
@@ -39,7 +38,7 @@ pub text-moded-spec : {M : Type 1} → statement M
 text-moded-spec =
     tie.close
     (tie.spec
-    part-requires
+    span-requires
     slice-aggregate-same
     same-requires
     text-in-requires

@@ -3,8 +3,8 @@ use borrow.Author.Needs.{needs}
 use Rattle.cases.proofs.lines.words_line.Statement.{statement}
 use Rattle.cases.proofs.lines.words_line.Tie as tie
 
-part-requires : tie.Need-part-requires
-part-requires c κs = search needs
+span-requires : tie.Need-span-requires
+span-requires c κs = search needs
 
 read-number-requires : tie.Need-read-number-requires
 read-number-requires c κs = search needs
@@ -18,8 +18,8 @@ enum-told c = search needs
 returns : tie.Need-returns
 returns c = search runs
 
-part-requires-2 : tie.Need-part-requires-2
-part-requires-2 c κs = search needs
+span-requires-2 : tie.Need-span-requires-2
+span-requires-2 c κs = search needs
 
 count-items-requires : tie.Need-count-items-requires
 count-items-requires c κs = search needs
@@ -40,12 +40,12 @@ pub words-line-spec : {M : Type 1} → statement M
 words-line-spec =
     tie.close
     (tie.spec
-    part-requires
+    span-requires
     read-number-requires
     enum-known-cells
     enum-told
     returns
-    part-requires-2
+    span-requires-2
     count-items-requires
     enum-known-records
     enum-told-2

@@ -1,6 +1,5 @@
-use Rattle.cases.proofs.Choices.{choices}
+use Rattle.basics.proofs.Choices.{choices}
 use Rattle.cases.specs.Numbers.{digitOf}
-use mathlib.Core.Path.{refl}
 use borrow.Author.Needs.{needs}
 use Rattle.cases.proofs.numbers.digit.Statement.{statement}
 use Rattle.cases.proofs.numbers.digit.Tie as tie

@@ -33,8 +33,8 @@ loop-holds c = tt
 check-requires : tie.Need-check-requires Inv-loop μ-loop
 check-requires c κs = search needs
 
-sign-requires : tie.Need-sign-requires Inv-loop μ-loop
-sign-requires c κs = search needs
+digit-requires : tie.Need-digit-requires Inv-loop μ-loop
+digit-requires c κs = search needs
 
 add-k : tie.Need-add-k Inv-loop μ-loop
 add-k c = search needs
@@ -68,7 +68,7 @@ each-column-spec =
     write-requires-2
     loop-holds
     check-requires
-    sign-requires
+    digit-requires
     add-k
     loop-less
     loop-again

@@ -36,8 +36,8 @@ two-requires c κs = search needs
 check-requires : tie.Need-check-requires Inv-loop μ-loop
 check-requires c κs = search needs
 
-sign-requires : tie.Need-sign-requires Inv-loop μ-loop
-sign-requires c κs = search needs
+digit-requires : tie.Need-digit-requires Inv-loop μ-loop
+digit-requires c κs = search needs
 
 add-class : tie.Need-add-class Inv-loop μ-loop
 add-class c = search needs
@@ -72,7 +72,7 @@ classes-of-spec =
     at-requires-2
     two-requires
     check-requires
-    sign-requires
+    digit-requires
     add-class
     loop-less
     loop-again

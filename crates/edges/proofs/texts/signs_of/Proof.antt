@@ -24,8 +24,8 @@ at-requires-3 c κs = search needs
 check-requires : tie.Need-check-requires Inv-loop μ-loop
 check-requires c κs = search needs
 
-sign-requires : tie.Need-sign-requires Inv-loop μ-loop
-sign-requires c κs = search needs
+digit-requires : tie.Need-digit-requires Inv-loop μ-loop
+digit-requires c κs = search needs
 
 at-requires-4 : tie.Need-at-requires-4 Inv-loop μ-loop
 at-requires-4 c κs = search needs
@@ -39,8 +39,8 @@ at-requires-6 c κs = search needs
 check-requires-2 : tie.Need-check-requires-2 Inv-loop μ-loop
 check-requires-2 c κs = search needs
 
-sign-requires-2 : tie.Need-sign-requires-2 Inv-loop μ-loop
-sign-requires-2 c κs = search needs
+digit-requires-2 : tie.Need-digit-requires-2 Inv-loop μ-loop
+digit-requires-2 c κs = search needs
 
 add-x : tie.Need-add-x Inv-loop μ-loop
 add-x c = search needs
@@ -71,12 +71,12 @@ signs-of-spec =
     at-requires-2
     at-requires-3
     check-requires
-    sign-requires
+    digit-requires
     at-requires-4
     at-requires-5
     at-requires-6
     check-requires-2
-    sign-requires-2
+    digit-requires-2
     add-x
     loop-less
     loop-again

@@ -1,7 +1,7 @@
-use Rattle.cases.proofs.Choices.{choices}
 use lib.Seq.{set-out}
 use mathlib.Core.Path.{sym}
 use borrow.Author.Needs.{needs}
+use Rattle.basics.proofs.Choices.{choices}
 use Rattle.label.proofs.texts.store.Statement.{statement}
 use Rattle.label.proofs.texts.store.Tie as tie
 

@@ -1,4 +1,4 @@
-use Rattle.cases.proofs.Choices.{choices}
+use Rattle.basics.proofs.Choices.{choices}
 use Rattle.label.proofs.Decoding.{from-lead}
 use Rattle.label.specs.Utf8.{decodeFrom}
 use borrow.Author.Needs.{needs}

@@ -1,4 +1,4 @@
-use Rattle.cases.proofs.Choices.{choices}
+use Rattle.basics.proofs.Choices.{choices}
 use Rattle.label.specs.Utf8.{fourOf}
 use borrow.Author.Needs.{needs}
 use Rattle.label.proofs.utf8.four_of.Statement.{statement}

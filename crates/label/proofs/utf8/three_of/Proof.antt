@@ -1,4 +1,4 @@
-use Rattle.cases.proofs.Choices.{choices}
+use Rattle.basics.proofs.Choices.{choices}
 use Rattle.label.specs.Utf8.{threeOf}
 use borrow.Author.Needs.{needs}
 use Rattle.label.proofs.utf8.three_of.Statement.{statement}

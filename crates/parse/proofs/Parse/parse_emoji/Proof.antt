@@ -3,7 +3,7 @@ use mathlib.Core.Path.{_≡_, refl}
 use Rattle.parse.specs.Rule.{run, while, isEmoji}
 use Rattle.parse.specs.Shared.{emojis, emojiTurn}
 use Rattle.parse.specs.State.{turns}
-use Rattle.parse.proofs.Rules.{rules, by-seq, loop-turns, loop-part, falls}
+use Rattle.parse.proofs.Rules.{rules, by-seq, loop-turns, loop-scope, falls}
 use borrow.Author.Needs.{needs}
 use Rattle.parse.proofs.Parse.parse_emoji.Statement.{statement}
 use Rattle.parse.proofs.Parse.parse_emoji.Tie as tie
@@ -42,7 +42,7 @@ resumed-requires : tie.Need-resumed-requires Inv-loop μ-loop
 resumed-requires c κs = search needs
 
 returns : tie.Need-returns Inv-loop μ-loop
-returns c = unfold emojis in search loop-part
+returns c = unfold emojis in search loop-scope
 
 returns-2 : tie.Need-returns-2 Inv-loop μ-loop
 returns-2 c = unfold emojis in search rules depth 8

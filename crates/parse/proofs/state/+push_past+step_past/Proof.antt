@@ -1,5 +1,5 @@
--- `parse::state::push_past` and `parse::state::step_past` meet their contracts. They call each other over runs of U+034F; "the room left in the
--- cluster falls". Assumes nothing.
+-- `parse::state::push_past` and `parse::state::step_past` meet their contracts. They call each other over runs of U+034F,
+-- each time with less room in the cluster (SCOPE 11). Assumes nothing.
 use mathlib.Core.Path.{_∙_, ap}
 use Rattle.token.specs.Token.{scalarOf}
 use native.Mathlib.Omega.{arith}

@@ -1,6 +1,6 @@
 use Rattle.records.specs.Sweep.{Below}
 use Rattle.records.proofs.Passing.{not-so, below-more}
-use Prim.Native.Nat.{ℕ, _-_, _≤_}
+use Prim.Native.Nat.{_-_, _≤_}
 use native.Mathlib.Omega.{arith}
 use borrow.Author.Needs.{needs}
 use Rattle.records.proofs.columns.below.Statement.{statement}

@@ -1,12 +1,15 @@
 use borrow.Author.Needs.{needs}
+use Rattle.records.specs.Text.{textIn}
+use Rattle.segment.proofs.Left.{turns, turn-falls, turns-end}
 use Rattle.replay.proofs.texts.calls.Statement.{statement}
 use Rattle.replay.proofs.texts.calls.Tie as tie
 
 abbrev Inv-loop : tie.InvT-loop
-Inv-loop to₀ at wides bytes firsts end₀ state₀ turns₀ to end state turns = Unit {0}
+Inv-loop to₀ at wides bytes firsts end₀ state₀ more₀ to end state more = Unit {0}
 
 abbrev μ-loop : tie.MeasureT-loop
-μ-loop to₀ at wides bytes firsts end₀ state₀ turns₀ to end state turns = turns
+μ-loop to₀ at wides bytes firsts end₀ state₀ more₀ to end state more =
+    turns state (textIn wides bytes firsts) more
 
 loop-holds : tie.Need-loop-holds Inv-loop μ-loop
 loop-holds c = search needs
@@ -20,17 +23,14 @@ enum-told c = search needs
 call-requires : tie.Need-call-requires Inv-loop μ-loop
 call-requires c κs = search needs
 
-sub-turns : tie.Need-sub-turns Inv-loop μ-loop
-sub-turns c = search needs
-
 loop-less : tie.Need-loop-less Inv-loop μ-loop
-loop-less c = search needs
+loop-less c = turn-falls _ _ _ _ (c .before .before .before .before .before .before .before .loop-test .taken) (c .before .before .before .before .before .before .next-in .ensures) (c .before .before .enum-told .given .1)
 
 loop-again : tie.Need-loop-again Inv-loop μ-loop
 loop-again c = search needs
 
 loop-less-2 : tie.Need-loop-less-2 Inv-loop μ-loop
-loop-less-2 c = search needs
+loop-less-2 c = turns-end _ _ _ (c .before .before .before .before .loop-test .taken)
 
 loop-again-2 : tie.Need-loop-again-2 Inv-loop μ-loop
 loop-again-2 c = search needs
@@ -48,7 +48,6 @@ calls-spec =
     next-in-requires
     enum-told
     call-requires
-    sub-turns
     loop-less
     loop-again
     loop-less-2

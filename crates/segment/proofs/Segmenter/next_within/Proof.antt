@@ -1,5 +1,5 @@
 use Rattle.segment.specs.Calls.{answerIn}
-use Rattle.segment.proofs.Answers.{all-fits}
+use Rattle.segment.proofs.CallLaws.{all-fits}
 use native.Mathlib.Omega.{arith}
 use lib.Seq.{length-take-le}
 use mathlib.Core.Path.{sym, _∙_, ap}

@@ -3,7 +3,7 @@ use mathlib.Core.Path.{refl, sym, _∙_, ap}
 use native.Mathlib.Omega.{arith}
 use Rattle.records.specs.Text.{textIn}
 use Rattle.tables.specs.Symbols.{Regular}
-use Rattle.segment.specs.Runs.{Roomy}
+use Rattle.segment.specs.Inner.{Roomy}
 use Rattle.segment.specs.Seen.{seenBy, useParser}
 use Rattle.segment.proofs.TableLaws.{cell-index}
 use Rattle.segment.proofs.Loops.{Goes, goes-start, goes-refill, goes-end, goes-row, goes-room, goes-leave, goes-turn, looked-up, left, is-filled, refill-falls, turn-falls, turn-inside}

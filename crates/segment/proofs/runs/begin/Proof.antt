@@ -1,6 +1,6 @@
 use Rattle.records.specs.Text.{textIn}
 use Rattle.segment.proofs.Standings.{ready-direct, begun-direct}
-use Rattle.segment.proofs.Turns.{run-starts}
+use Rattle.segment.proofs.CallTurns.{run-starts}
 use borrow.Author.Needs.{needs}
 use Rattle.segment.proofs.runs.begin.Statement.{statement}
 use Rattle.segment.proofs.runs.begin.Tie as tie

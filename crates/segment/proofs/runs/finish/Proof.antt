@@ -3,9 +3,9 @@ use native.Mathlib.Omega.{arith}
 use mathlib.Core.List.{List}
 use mathlib.Core.Path.{_∙_, sym}
 use lib.ListN.{length}
-use Rattle.segment.specs.Runs.{Roomy}
+use Rattle.segment.specs.Inner.{Roomy}
 use Rattle.segment.specs.Standing.{Running, Stood}
-use Rattle.segment.proofs.Turns.{run-fits, run-turn, run-falls, run-over}
+use Rattle.segment.proofs.CallTurns.{run-fits, run-turn, run-falls, run-over}
 use borrow.Author.Needs.{needs}
 use Rattle.segment.proofs.runs.finish.Statement.{statement}
 use Rattle.segment.proofs.runs.finish.Tie as tie

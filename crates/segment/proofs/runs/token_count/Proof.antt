@@ -1,6 +1,6 @@
 use Rattle.segment.proofs.Regulars.{direct-length}
-use Rattle.segment.proofs.Answers.{counted}
-use Rattle.tokens.proofs.Accepted.{few}
+use Rattle.segment.proofs.CallLaws.{counted}
+use Rattle.stream.proofs.Accepted.{few}
 use mathlib.Core.Path.{_∙_}
 use Rattle.records.specs.Text.{textIn}
 use borrow.Author.Needs.{needs}

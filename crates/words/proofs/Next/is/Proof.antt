@@ -1,4 +1,4 @@
-use Rattle.records.proofs.Chain.{or-only}
+use Rattle.basics.proofs.Choices.{or-only}
 use Rattle.words.proofs.Chain.{by-class}
 use borrow.Author.Needs.{needs}
 use Rattle.words.proofs.Next.is.Statement.{statement}

@@ -1,4 +1,4 @@
-//! Shape classes in document 01's order.
+//! Shape classes in the order of SCOPE 4.1.
 
 /// Named by mod.rs.
 pub struct Char;

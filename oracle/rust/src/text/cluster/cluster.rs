@@ -58,8 +58,8 @@ impl CharCluster {
         self.normalize = true;
     }
 
-    /// Where the Rust would push a 33rd, "the port ends the call with 32, before the class is
-    /// looked at": so it has not found the cluster broken either.
+    /// Where the Rust would go on to a 33rd, the call ends with the 32, not broken (SCOPE 6.8): the
+    /// class that would make it so has not been looked at.
     pub fn info(&self) -> ClusterInfo {
         ClusterInfo { broken: self.info.broken && !self.pushed_past, ..self.info }
     }

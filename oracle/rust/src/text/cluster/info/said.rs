@@ -37,7 +37,7 @@ pub enum Emoji {
     Color,
 }
 
-/// "None, newline, or from a scalar".
+/// None, newline, or the scalar that `set_space_from_char` is given (SCOPE 4.1).
 #[derive(Copy, Clone)]
 pub enum Whitespace {
     None,

@@ -1,0 +1,20 @@
+use borrow.Author.Needs.{needs}
+use Rattle.stream.proofs.Piece.{piece-counts}
+use borrow.Author.Needs.{needs}
+use Rattle.stream.proofs.pieces.piece_count.Statement.{statement}
+use Rattle.stream.proofs.pieces.piece_count.Tie as tie
+
+returns : tie.Need-returns
+returns c = (search piece-counts, search needs)
+
+is-split-sign-requires : tie.Need-is-split-sign-requires
+is-split-sign-requires c κs = search needs
+
+returns-2 : tie.Need-returns-2
+returns-2 c = (search piece-counts, search needs)
+
+returns-3 : tie.Need-returns-3
+returns-3 c = (search piece-counts, search needs)
+
+pub piece-count-spec : {M : Type 1} → statement M
+piece-count-spec = tie.close (tie.spec returns is-split-sign-requires returns-2 returns-3)

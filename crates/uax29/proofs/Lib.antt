@@ -1,0 +1,4 @@
+pub mod ClustersSides
+pub mod WordsChain
+pub mod WordsRules
+pub mod WordsWalk
