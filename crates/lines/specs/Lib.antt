@@ -1,0 +1,4 @@
+pub mod LineBreak
+pub mod Rules
+pub mod Refusals
+pub mod PairTable

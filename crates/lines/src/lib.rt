@@ -1,0 +1,104 @@
+// The line machine: `check_line` of src/text/analyze.rs over a lent table, as one step with its refusals.
+mod judge;
+pub mod line_break;
+pub mod pair_table;
+mod rules;
+
+use records::Verdict;
+ghost use mathlib.Core.Path.{_≡_};
+ghost use Rattle.lines.specs.Rules.{boundaryCode, strengthCode, startState};
+ghost use Rattle.lines.specs.Refusals.{stepOf};
+
+// How strongly words hold together, the Rust's `WordBreakStrength`.
+pub enum Strength {
+    Normal,
+    BreakAll,
+    KeepAll,
+}
+
+// What stands before a record, the Rust's `Boundary`.
+pub enum Boundary {
+    None,
+    Word,
+    Line,
+    Mandatory,
+}
+
+// The class of the record before, or none at the start of the text.
+pub enum Previous {
+    Class(u8),
+    Nothing,
+}
+
+// What the machine keeps between two records. Every value is allowed, and the step refuses those that its table has not.
+pub struct LineState {
+    pub row: u8,
+    pub previous: Previous,
+}
+
+// What a step hands back: the new state, the answer, and the verdict.
+pub struct LineStep {
+    pub state: LineState,
+    pub answer: Boundary,
+    pub verdict: Verdict,
+}
+
+impl Strength {
+    // The number by which a caller asks for the strength.
+    pub fn code(self) -> u8
+        ensures { λ r. ⌜ r ≡ strengthCode self ⌝ }
+    {
+        match self {
+            Strength::Normal => 0,
+            Strength::BreakAll => 1,
+            Strength::KeepAll => 2,
+        }
+    }
+}
+
+impl Boundary {
+    // The number that a run writes for the boundary.
+    pub fn code(self) -> u8
+        ensures { λ r. ⌜ r ≡ boundaryCode self ⌝ }
+    {
+        match self {
+            Boundary::None => 0,
+            Boundary::Word => 1,
+            Boundary::Line => 2,
+            Boundary::Mandatory => 3,
+        }
+    }
+}
+
+impl LineState {
+    pub const START: LineState = LineState {
+        row: 44,
+        previous: Previous::Nothing,
+    };
+
+    // `START` is the start state of the definitions.
+    pub fn start() -> LineState
+        ensures { λ r. ⌜ r ≡ startState ⌝ }
+    {
+        LineState::START
+    }
+
+    // One record: the state after it and its answer, or a refusal with the same state and the answer none.
+    pub fn step(self, table: &[u8], strength: Strength, class: u8) -> LineStep
+        ensures { λ r. ⌜ r ≡ stepOf strength (now (table .entry)) self class ⌝ }
+    {
+        let verdict = self.judge(table, class);
+        let Verdict::Accepted = verdict else {
+            return LineStep {
+                state: self,
+                answer: Boundary::None,
+                verdict,
+            };
+        };
+        LineStep {
+            state: self.after(table, class),
+            answer: self.answer(table, strength, class),
+            verdict,
+        }
+    }
+}
