@@ -1,3 +1,5 @@
 pub mod Arms
 pub mod Table
 pub mod Laws
+pub mod Turns
+pub mod RunLaws

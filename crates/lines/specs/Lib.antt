@@ -1,4 +1,6 @@
 pub mod LineBreak
 pub mod Rules
 pub mod Refusals
+pub mod Run
+pub mod Inner
 pub mod PairTable

@@ -1,13 +1,21 @@
-// The line machine: `check_line` of src/text/analyze.rs over a lent table, as one step with its refusals.
+// The line machine: `check_line` of src/text/analyze.rs over a lent table, as one step with its refusals, and the run of `next`,
+// which merges its answers with those of the word machine.
 mod judge;
 pub mod line_break;
 pub mod pair_table;
 mod rules;
+mod runs;
 
+use records::Refusal;
+use records::Side;
 use records::Verdict;
+use runs::check;
+use runs::lay;
 ghost use mathlib.Core.Path.{_≡_};
+ghost use lib.ListN.{length};
 ghost use Rattle.lines.specs.Rules.{boundaryCode, strengthCode, startState};
 ghost use Rattle.lines.specs.Refusals.{stepOf};
+ghost use Rattle.lines.specs.Run.{runVerdict, runCells};
 
 // How strongly words hold together, the Rust's `WordBreakStrength`.
 pub enum Strength {
@@ -101,4 +109,32 @@ impl LineState {
             verdict,
         }
     }
+}
+
+// The answers to a whole text, one cell a record: 0 none, 1 word, 2 line, 3 mandatory.
+pub fn run(
+    table: &[u8],
+    strength: Strength,
+    lines: &[u8],
+    words: &[u8],
+    pictographs: &[u8],
+    out: &mut [u8],
+) -> Verdict
+    ensures { λ r. ⌜ r ≡ runVerdict (now (table .entry)) (now (lines .entry)) (now (words .entry)) (now (pictographs .entry)) (length (now (out .entry))) ⌝ }
+    ensures { λ _. ⌜ now (out .exit) ≡ runCells strength (now (table .entry)) (now (lines .entry)) (now (words .entry)) (now (pictographs .entry)) (now (out .entry)) ⌝ }
+{
+    let checked = check(table, lines, words, pictographs);
+    let Verdict::Accepted = checked else {
+        return checked;
+    };
+    if out.len() < lines.len() {
+        return Verdict::Refused(Refusal {
+            number: 9,
+            side: Side::Neither,
+            index: 0,
+        });
+    }
+    words::run(words, pictographs, out);
+    lay(table, strength, lines, out);
+    Verdict::Accepted
 }

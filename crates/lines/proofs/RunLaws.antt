@@ -1,0 +1,142 @@
+-- How the run's check and the run come out. Assumes nothing.
+use Prim.Native.Nat.{ℕ, zero, suc, _+_, _<_, _≤_}
+use mathlib.Core.Path.{_≡_, refl, sym, _∙_, ap}
+use mathlib.Core.Bool.{Bool, true, false, not, _||_}
+use mathlib.Core.List.{List, [], _∷_, _++_}
+use native.Mathlib.Nat.{le-refl}
+use native.Mathlib.Omega.{arith}
+use lib.Dec.{eqb, leb, ltb}
+use lib.ListN.{length, drop}
+use lib.Seq.{drop-at}
+use borrow.Author.Tests.{lt-ltb, le-ltb, eqb-true, eq-eqb}
+use Rattle.basics.specs.Sets.{any}
+use Rattle.basics.proofs.Tests.{neither}
+use Rattle.classes.specs.WordBreak as WordBreak
+use Rattle.records.specs.Text.{cell}
+use Rattle.records.specs.Refusals.{refusal, refuse, _⊳_, over, most, tooLong, uneven, outside, coded, mark, judgeLengths, judgeWord, wordVerdict}
+use Rattle.records.specs.declared.Side.{Side}
+use Rattle.records.specs.declared.Side.the-variants.{Record, Neither}
+use Rattle.records.specs.declared.Refusal.{Refusal}
+use Rattle.records.specs.declared.Verdict.{Verdict}
+use Rattle.records.specs.declared.Verdict.the-variants.{Accepted, Refused}
+use Rattle.words.specs.Run as Words
+use Rattle.words.proofs.Answers.{answers-length}
+use Rattle.lines.specs.LineBreak as LineBreak
+use Rattle.lines.specs.Refusals.{badTable}
+use Rattle.lines.specs.Run.{answers, judgeRecord, checkVerdict, runVerdict, runCells}
+use Rattle.lines.specs.Inner.{overlaid}
+use Rattle.lines.specs.declared.Strength.{Strength}
+use Rattle.lines.proofs.Turns.{merged-all}
+
+-- the check, where v is what was said of the lengths
+module _ (table lines words pictographs : List ℕ) (v : Verdict) (e : v ≡ judgeLengths (length lines ∷ length words ∷ length pictographs ∷ []) []) where
+  pub check-shape : (r : Refusal) → v ≡ Refused r → v ≡ checkVerdict table lines words pictographs
+  unfolding checkVerdict
+  check-shape r h = rw (← e, h)
+
+  pub check-table : (t : Bool) → v ≡ Accepted → t ≡ badTable table → t ≡ true → Refused (refusal 10 Neither 0) ≡ checkVerdict table lines words pictographs
+  unfolding checkVerdict
+  check-table t h f g = rw (← e, h, ← f, g)
+
+  pub check-records : (t : Bool) (q : Verdict) → v ≡ Accepted → t ≡ badTable table → t ≡ false → q ≡ over (λ i. judgeRecord (cell lines i) (cell words i) (cell pictographs i) i) 0 (length lines) → q ≡ checkVerdict table lines words pictographs
+  unfolding checkVerdict
+  check-records t q h f g k = rw (← e, h, ← f, g) k
+
+-- # What acceptance gives
+
+never : {A : Type 0} {r : Refusal} → Refused r ≡ Accepted → A
+never e = absurd (let z : _≡_ {A = ℕ} 0 1 = cc in omega arith)
+
+passes : (a b : Verdict) → a ⊳ b ≡ Accepted → (a ≡ Accepted) × (b ≡ Accepted)
+passes Accepted b e = (refl, e)
+passes (Refused r) b e = never e
+
+unrefused : (test : Bool) (number : ℕ) (side : Side) (index : ℕ) → refuse test number side index ≡ Accepted → test ≡ false
+unrefused true number side index h = never h
+unrefused false number side index h = refl
+
+-- what passes one judge at each index passes another that asks for less
+over-less : (f g : ℕ → Verdict) → ((k : ℕ) → f k ≡ Accepted → g k ≡ Accepted) → (n i : ℕ) → over f i n ≡ Accepted → over g i n ≡ Accepted
+unfolding over
+over-less f g less zero i h = refl
+over-less f g less (suc n) i h =
+    let p : (f i ≡ Accepted) × (over f (i + 1) n ≡ Accepted) = passes (f i) (over f (i + 1) n) h in
+    rw (less i (p .0)) (over-less f g less n (i + 1) (p .1))
+
+word-less : (line word pictograph i : ℕ) → judgeRecord line word pictograph i ≡ Accepted → judgeWord word pictograph i ≡ Accepted
+unfolding judgeRecord judgeWord
+word-less line word pictograph i h =
+    let o : outside (coded word WordBreak.len ∷ mark pictograph ∷ []) ≡ false =
+    neither (leb LineBreak.len line) (outside (coded word WordBreak.len ∷ mark pictograph ∷ [])) (unrefused _ 4 Record i h) .1 in
+    rw o
+
+not-off : (b : Bool) → not b ≡ false → b ≡ true
+not-off true h = refl
+not-off false h = absurd (let z : _≡_ {A = ℕ} 0 1 = cc in omega arith)
+
+-- three lengths that pass: they are one, and so two of them pass
+module _ (a b c : ℕ) (h : judgeLengths (a ∷ b ∷ c ∷ []) [] ≡ Accepted) where
+  short : tooLong (a ∷ b ∷ c ∷ []) ≡ false
+  unfolding judgeLengths
+  short = neither (tooLong (a ∷ b ∷ c ∷ [])) false (unrefused (tooLong (a ∷ b ∷ c ∷ []) || false) 1 Neither 0 (passes (refuse (tooLong (a ∷ b ∷ c ∷ []) || false) 1 Neither 0) (refuse (uneven (a ∷ b ∷ c ∷ []) || false) 2 Neither 0) h .0)) .0
+
+  even : uneven (a ∷ b ∷ c ∷ []) ≡ false
+  unfolding judgeLengths
+  even = neither (uneven (a ∷ b ∷ c ∷ [])) false (unrefused (uneven (a ∷ b ∷ c ∷ []) || false) 2 Neither 0 (passes (refuse (tooLong (a ∷ b ∷ c ∷ []) || false) 1 Neither 0) (refuse (uneven (a ∷ b ∷ c ∷ []) || false) 2 Neither 0) h .1)) .0
+
+  second : b ≡ a
+  second = eqb-true b a (not-off (eqb b a) (neither (not (eqb b a)) (not (eqb c a) || false) (neither (not (eqb a a)) (not (eqb b a) || (not (eqb c a) || false)) even .1) .0))
+
+  third : c ≡ a
+  third = eqb-true c a (not-off (eqb c a) (neither (not (eqb c a)) false (neither (not (eqb b a)) (not (eqb c a) || false) (neither (not (eqb a a)) (not (eqb b a) || (not (eqb c a) || false)) even .1) .1) .0))
+
+  two-pass : judgeLengths (b ∷ c ∷ []) [] ≡ Accepted
+  unfolding judgeLengths
+  two-pass =
+      let s : tooLong (b ∷ c ∷ []) ≡ false = neither (ltb most a) (tooLong (b ∷ c ∷ [])) short .1 in
+      let f : c ≡ b = third ∙ sym second in
+      rw (s, eq-eqb b b refl, eq-eqb c b f)
+
+-- what the line run accepts, the word run accepts
+module _ (table lines words pictographs : List ℕ) (accepted : checkVerdict table lines words pictographs ≡ Accepted) where
+  parts : (judgeLengths (length lines ∷ length words ∷ length pictographs ∷ []) [] ≡ Accepted) × (over (λ i. judgeRecord (cell lines i) (cell words i) (cell pictographs i) i) 0 (length lines) ≡ Accepted)
+  unfolding checkVerdict
+  parts =
+      let p = passes (judgeLengths (length lines ∷ length words ∷ length pictographs ∷ []) []) _ accepted in
+      (p .0, passes (refuse (badTable table) 10 Neither 0) _ (p .1) .1)
+
+  pub one-length : length words ≡ length lines
+  one-length = second (length lines) (length words) (length pictographs) (parts .0)
+
+  pub words-accepted : wordVerdict words pictographs ≡ Accepted
+  unfolding wordVerdict
+  words-accepted =
+      let o = over-less (λ i. judgeRecord (cell lines i) (cell words i) (cell pictographs i) i) (λ i. judgeWord (cell words i) (cell pictographs i) i)
+      (λ k. word-less (cell lines k) (cell words k) (cell pictographs k) k) (length lines) 0 (parts .1) in
+      rw (two-pass (length lines) (length words) (length pictographs) (parts .0), one-length) o
+
+-- # The run, where v is what the check said
+
+module _ (strength : Strength) (table lines words pictographs out : List ℕ) (v : Verdict) (e : v ≡ checkVerdict table lines words pictographs) where
+  abbrev Ran : Verdict → List ℕ → Type 0
+  Ran r cells = (r ≡ runVerdict table lines words pictographs (length out)) × (cells ≡ runCells strength table lines words pictographs out)
+
+  pub ran-refused : (r : Refusal) → v ≡ Refused r → Ran v out
+  unfolding runVerdict
+  ran-refused r h = rw (← e, h) (refl, refl)
+
+  pub ran-short : v ≡ Accepted → length out < length lines → Ran (Refused (refusal 9 Neither 0)) out
+  unfolding runVerdict
+  ran-short h short = rw (← e, h, lt-ltb _ _ short) (refl, refl)
+
+  -- out₁ is what the word run left, cells what the line answers made of it
+  pub ran-whole : (out₁ cells : List ℕ) → v ≡ Accepted → length lines ≤ length out → out₁ ≡ Words.runCells words pictographs out → cells ≡ overlaid strength table lines out₁ (length lines) ++ drop (length lines) out₁ → Ran Accepted cells
+  unfolding runVerdict Words.runVerdict
+  ran-whole out₁ cells h long w k =
+      let good : checkVerdict table lines words pictographs ≡ Accepted = sym e ∙ h in
+      let n : length words ≡ length lines = one-length table lines words pictographs good in
+      let room : length words ≤ length out = omega (arith, n) in
+      let f : out₁ ≡ Words.answers words pictographs (length lines) ++ drop (length lines) out =
+      w ∙ rw (words-accepted table lines words pictographs good, le-ltb (length out) (length words) room, n) in
+      rw (← e, h, le-ltb _ _ long)
+      (refl, k ∙ rw (f, merged-all strength table lines words pictographs (drop (length lines) out) (length lines) (length lines) (le-refl (length lines)), drop-at (Words.answers words pictographs (length lines)) (drop (length lines) out) (length lines) (answers-length words pictographs (length lines))))

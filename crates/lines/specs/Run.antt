@@ -1,0 +1,69 @@
+-- The run of `next` over three columns and a lent table: `check_line` and `check_word` at each record.
+use Prim.Native.Nat.{ℕ, zero, suc}
+use mathlib.Core.Bool.{cond}
+use mathlib.Core.List.{List, [], _∷_, _++_}
+use lib.Dec.{eqb, ltb}
+use lib.ListN.{length, drop}
+use Rattle.classes.specs.WordBreak as WordBreak
+use Rattle.records.specs.Text.{cell}
+use Rattle.records.specs.Refusals.{refuse, _⊳_, over, coded, mark, outside, judgeLengths}
+use Rattle.records.specs.declared.Side.the-variants.{Record, Neither}
+use Rattle.records.specs.declared.Refusal.{Refusal}
+use Rattle.records.specs.declared.Verdict.{Verdict}
+use Rattle.records.specs.declared.Verdict.the-variants.{Accepted, Refused}
+use Rattle.words.specs.Run as Words
+use Rattle.lines.specs.LineBreak as LineBreak
+use Rattle.lines.specs.Rules.{boundaryCode, startState, lineAnswer, lineAfter}
+use Rattle.lines.specs.Refusals.{badTable}
+use Rattle.lines.specs.declared.Strength.{Strength}
+use Rattle.lines.specs.declared.LineState.{LineState}
+
+-- the state before the record at an index; no strength is looked at
+unfoldable pub stateAt : List ℕ → List ℕ → ℕ → LineState
+stateAt table lines zero = startState
+stateAt table lines (suc i) = lineAfter table (stateAt table lines i) (cell lines i)
+
+-- the line answer at an index, as a number
+unfoldable pub lineAt : Strength → List ℕ → List ℕ → ℕ → ℕ
+lineAt strength table lines i = boundaryCode (lineAnswer strength table (stateAt table lines i) (cell lines i))
+
+-- "mandatory, line, word or none, where word stands only if the line answer is none"; a word answer is 1 or 0
+abbrev pub merged : ℕ → ℕ → ℕ
+merged line word = cond (eqb line 0) word line
+
+-- the answer of `next` at an index: the word machine takes its step whatever the line answer is
+unfoldable pub answerAt : Strength → List ℕ → List ℕ → List ℕ → List ℕ → ℕ → ℕ
+answerAt strength table lines words pictographs i = merged (lineAt strength table lines i) (Words.answerAt words pictographs i)
+
+-- the answers to the first n records
+unfoldable pub answers : Strength → List ℕ → List ℕ → List ℕ → List ℕ → ℕ → List ℕ
+answers strength table lines words pictographs zero = []
+answers strength table lines words pictographs (suc i) =
+    answers strength table lines words pictographs i ++ (answerAt strength table lines words pictographs i ∷ [])
+
+-- 4, of any of the three codes
+unfoldable pub judgeRecord : ℕ → ℕ → ℕ → ℕ → Verdict
+judgeRecord line word pictograph i =
+    refuse (outside (coded line LineBreak.len ∷ coded word WordBreak.len ∷ mark pictograph ∷ [])) 4 Record i
+
+-- 1 and 2 over the three columns, then 10, then 4 by rising index
+unfoldable pub checkVerdict : List ℕ → List ℕ → List ℕ → List ℕ → Verdict
+checkVerdict table lines words pictographs =
+    judgeLengths (length lines ∷ length words ∷ length pictographs ∷ []) []
+    ⊳ refuse (badTable table) 10 Neither 0
+    ⊳ over (λ i. judgeRecord (cell lines i) (cell words i) (cell pictographs i) i) 0 (length lines)
+
+-- then 9 for fewer cells than records
+unfoldable pub runVerdict : List ℕ → List ℕ → List ℕ → List ℕ → ℕ → Verdict
+runVerdict table lines words pictographs cells =
+    checkVerdict table lines words pictographs ⊳ refuse (ltb cells (length lines)) 9 Neither 0
+
+-- cells past the records keep their content, and with a refusal all do
+abbrev pub cellsUnder : Verdict → Strength → List ℕ → List ℕ → List ℕ → List ℕ → List ℕ → List ℕ
+cellsUnder Accepted strength table lines words pictographs out =
+    answers strength table lines words pictographs (length lines) ++ drop (length lines) out
+cellsUnder (Refused r) strength table lines words pictographs out = out
+
+abbrev pub runCells : Strength → List ℕ → List ℕ → List ℕ → List ℕ → List ℕ → List ℕ
+runCells strength table lines words pictographs out =
+    cellsUnder (runVerdict table lines words pictographs (length out)) strength table lines words pictographs out
