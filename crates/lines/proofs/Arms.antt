@@ -1,7 +1,7 @@
 -- The arms and tests of the code are the choices of the definitions. Assumes nothing.
 use Prim.Native.Nat.{ℕ}
-use mathlib.Core.Path.{_≡_, refl, sym, _∙_}
-use mathlib.Core.Bool.{Bool, true, false, not, _&&_}
+use mathlib.Core.Path.{_≡_, _∙_}
+use mathlib.Core.Bool.{Bool, true, false}
 use mathlib.Core.List.{List, [], _∷_}
 use Rattle.basics.specs.Sets.{member}
 use Rattle.records.specs.declared.Refusal.{Refusal}
@@ -15,7 +15,6 @@ use Rattle.lines.specs.declared.Previous.the-variants.{Class, Nothing}
 use Rattle.lines.specs.declared.Boundary.{Boundary}
 use Rattle.lines.specs.declared.Boundary.the-variants as Boundary
 use Rattle.lines.specs.declared.LineState.{LineState}
-use Rattle.lines.specs.declared.LineStep.{LineStep}
 use Rattle.lines.specs.Rules.{pair, previousIn, leftOf, rightOf, keptTogether, isMandatory, isAllowed, asked, told, keeps, lineAnswer, lineAfter}
 use Rattle.lines.specs.Refusals.{badPrevious, stepVerdict, stepOf}
 
@@ -78,8 +77,8 @@ module _ (strength : Strength) (table : List ℕ) (s : LineState) (class : ℕ) 
 
 -- a previous class outside the list
 module _ (p : Previous) (r : Bool) where
-  pub bad-class : (x : ℕ) (t : Bool) → p ≡ Class x → r ≡ badPrevious (Class x) → r ≡ badPrevious p
-  bad-class x t e k = rw e k
+  pub bad-class : (x : ℕ) → p ≡ Class x → r ≡ badPrevious (Class x) → r ≡ badPrevious p
+  bad-class x e k = rw e k
 
   pub bad-none : p ≡ Nothing → r ≡ false → r ≡ badPrevious p
   bad-none e k = rw e k

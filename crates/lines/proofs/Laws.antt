@@ -1,23 +1,21 @@
 -- What is true of every line step. Assumes nothing.
-use Prim.Native.Nat.{ℕ, zero, suc, _+_, _*_, _/_, _%_, _<_, _≤_}
-use mathlib.Core.Path.{_≡_, refl, sym, _∙_, ap}
+use Prim.Native.Nat.{ℕ, zero, suc, _+_, _*_, _%_, _<_, _≤_}
+use mathlib.Core.Path.{_≡_, refl}
 use mathlib.Core.Bool.{Bool, true, false, not, _||_}
 use mathlib.Core.List.{List, [], _∷_}
 use native.Mathlib.Omega.{arith}
 use lib.Dec.{eqb, leb, ltb}
-use lib.ListN.{length, getD, List·getD-eq-default}
+use lib.ListN.{length, getD}
 use borrow.Author.Tests.{leb-true, leb-false, ltb-false}
 use Rattle.basics.specs.Sets.{any}
 use Rattle.basics.proofs.Tests.{by-test, neither}
 use Rattle.records.specs.Text.{cell}
 use Rattle.records.specs.declared.Verdict.{Verdict}
 use Rattle.records.specs.declared.Verdict.the-variants.{Accepted, Refused}
-use Rattle.lines.specs.Rules.{width, rowIn, pair, lineAnswer, lineAfter}
+use Rattle.lines.specs.Rules.{width, rowIn, lineAfter}
 use Rattle.lines.specs.Refusals.{rowsOf, badTable, stepVerdict, stepUnder, stepOf}
 use Rattle.lines.specs.declared.Strength.{Strength}
-use Rattle.lines.specs.declared.Boundary.{Boundary}
 use Rattle.lines.specs.declared.LineState.{LineState}
-use Rattle.lines.specs.declared.LineStep.{LineStep}
 
 -- "Whatever the strength, the row that is stored is of the cell that Normal asks" (SCOPE 12.1): the state after a step is the same at
 -- every strength, refused or not.

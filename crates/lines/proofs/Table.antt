@@ -1,9 +1,8 @@
 -- The crate's own table and its list of classes, each by one computed test. Assumes nothing.
-use Prim.Native.Nat.{ℕ}
 use mathlib.Core.Path.{_≡_, refl}
 use mathlib.Core.Bool.{true, false}
 use mathlib.Core.List.{[], _∷_}
-use Rattle.classes.proofs.Lists.{Listed, allListed}
+use Rattle.classes.proofs.Lists.{allListed}
 use Rattle.lines.specs.LineBreak.{len, lineBreaks}
 use Rattle.lines.specs.PairTable.{pairTable}
 use Rattle.lines.specs.Refusals.{rowsOf, badTable}

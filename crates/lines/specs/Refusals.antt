@@ -1,13 +1,12 @@
 -- The refusals of a line step (SCOPE 12.1).
 use Prim.Native.Nat.{ℕ, _/_, _%_}
-use mathlib.Core.Bool.{Bool, true, false, not, _||_}
-use mathlib.Core.List.{List, [], _∷_}
+use mathlib.Core.Bool.{Bool, false, not, _||_}
+use mathlib.Core.List.{List}
 use lib.Dec.{eqb, leb, ltb}
 use lib.ListN.{length}
 use Rattle.basics.specs.Sets.{any}
 use Rattle.records.specs.Refusals.{refuse, _⊳_}
 use Rattle.records.specs.declared.Side.the-variants.{Record, Neither}
-use Rattle.records.specs.declared.Refusal.{Refusal}
 use Rattle.records.specs.declared.Verdict.{Verdict}
 use Rattle.records.specs.declared.Verdict.the-variants.{Accepted, Refused}
 use Rattle.lines.specs.LineBreak as LineBreak

@@ -8,7 +8,6 @@ use Rattle.classes.specs.WordBreak as WordBreak
 use Rattle.records.specs.Text.{cell}
 use Rattle.records.specs.Refusals.{refuse, _⊳_, over, coded, mark, outside, judgeLengths}
 use Rattle.records.specs.declared.Side.the-variants.{Record, Neither}
-use Rattle.records.specs.declared.Refusal.{Refusal}
 use Rattle.records.specs.declared.Verdict.{Verdict}
 use Rattle.records.specs.declared.Verdict.the-variants.{Accepted, Refused}
 use Rattle.words.specs.Run as Words

@@ -11,7 +11,7 @@ ghost use mathlib.Core.Path.{_≡_};
 ghost use lib.Dec.{leb};
 ghost use Rattle.basics.specs.Sets.{any};
 ghost use Rattle.lines.specs.Rules.{rowIn};
-ghost use Rattle.lines.specs.Refusals.{badTable, badPrevious, badState, rowsOf, stepVerdict};
+ghost use Rattle.lines.specs.Refusals.{badTable, badPrevious, badState, stepVerdict};
 
 // The row in which every text starts is the last that a table must have.
 const FEWEST: usize = 45;

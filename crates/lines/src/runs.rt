@@ -20,7 +20,7 @@ ghost use Rattle.records.specs.Text.{cell};
 ghost use Rattle.records.specs.Refusals.{over, outside, coded, mark, judgeLengths};
 ghost use Rattle.classes.specs.WordBreak as WordBreak;
 ghost use Rattle.lines.specs.LineBreak as LineBreak;
-ghost use Rattle.lines.specs.Run.{merged, judgeRecord, checkVerdict, runVerdict, runCells};
+ghost use Rattle.lines.specs.Run.{merged, judgeRecord, checkVerdict};
 ghost use Rattle.lines.specs.Inner.{overlaid};
 
 // 1 and 2.
