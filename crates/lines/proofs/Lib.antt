@@ -3,3 +3,4 @@ pub mod Table
 pub mod Laws
 pub mod Turns
 pub mod RunLaws
+pub mod NextArms

@@ -46,11 +46,11 @@ module _ (table lines words pictographs : List ℕ) (v : Verdict) (e : v ≡ jud
 never : {A : Type 0} {r : Refusal} → Refused r ≡ Accepted → A
 never e = absurd (let z : _≡_ {A = ℕ} 0 1 = cc in omega arith)
 
-passes : (a b : Verdict) → a ⊳ b ≡ Accepted → (a ≡ Accepted) × (b ≡ Accepted)
+pub passes : (a b : Verdict) → a ⊳ b ≡ Accepted → (a ≡ Accepted) × (b ≡ Accepted)
 passes Accepted b e = (refl, e)
 passes (Refused r) b e = never e
 
-unrefused : (test : Bool) (number : ℕ) (side : Side) (index : ℕ) → refuse test number side index ≡ Accepted → test ≡ false
+pub unrefused : (test : Bool) (number : ℕ) (side : Side) (index : ℕ) → refuse test number side index ≡ Accepted → test ≡ false
 unrefused true number side index h = never h
 unrefused false number side index h = refl
 

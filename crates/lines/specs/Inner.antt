@@ -1,11 +1,19 @@
 -- What only private contracts need: line answers laid over cells that hold word answers.
 use Prim.Native.Nat.{ℕ, zero, suc}
+use mathlib.Core.Bool.{cond}
 use mathlib.Core.List.{List, [], _∷_, _++_}
+use lib.Dec.{eqb}
 use Rattle.records.specs.Text.{cell}
-use Rattle.lines.specs.Run.{lineAt, merged}
+use Rattle.lines.specs.Rules.{boundaryCode}
+use Rattle.lines.specs.Run.{lineAt}
 use Rattle.lines.specs.declared.Strength.{Strength}
+
+-- the number of a line answer, and the word answer where that is none
+abbrev pub merged : ℕ → ℕ → ℕ
+merged line word = cond (eqb line 0) word line
 
 -- the first n cells of a column with the line answers laid over them
 unfoldable pub overlaid : Strength → List ℕ → List ℕ → List ℕ → ℕ → List ℕ
 overlaid strength table lines out zero = []
-overlaid strength table lines out (suc i) = overlaid strength table lines out i ++ (merged (lineAt strength table lines i) (cell out i) ∷ [])
+overlaid strength table lines out (suc i) =
+    overlaid strength table lines out i ++ (merged (boundaryCode (lineAt strength table lines i)) (cell out i) ∷ [])

@@ -3,4 +3,5 @@ pub mod Rules
 pub mod Refusals
 pub mod Run
 pub mod Inner
+pub mod NextStep
 pub mod PairTable

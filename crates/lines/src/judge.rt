@@ -55,7 +55,7 @@ impl Previous {
 }
 
 impl LineState {
-    fn is_bad(self, table: &[u8]) -> bool
+    pub(crate) fn is_bad(self, table: &[u8]) -> bool
         ensures { λ r. ⌜ r ≡ badState (now (table .entry)) self ⌝ }
     {
         if table.len() / WIDTH <= self.row as usize {

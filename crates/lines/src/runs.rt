@@ -20,8 +20,8 @@ ghost use Rattle.records.specs.Text.{cell};
 ghost use Rattle.records.specs.Refusals.{over, outside, coded, mark, judgeLengths};
 ghost use Rattle.classes.specs.WordBreak as WordBreak;
 ghost use Rattle.lines.specs.LineBreak as LineBreak;
-ghost use Rattle.lines.specs.Run.{merged, judgeRecord, checkVerdict};
-ghost use Rattle.lines.specs.Inner.{overlaid};
+ghost use Rattle.lines.specs.Run.{judgeRecord, checkVerdict};
+ghost use Rattle.lines.specs.Inner.{merged, overlaid};
 
 // 1 and 2.
 fn judge_columns(lines: usize, words: usize, pictographs: usize) -> Verdict
@@ -45,7 +45,7 @@ fn judge_columns(lines: usize, words: usize, pictographs: usize) -> Verdict
     Verdict::Accepted
 }
 
-fn is_bad_record(line: u8, word: u8, pictograph: u8) -> bool
+pub(crate) fn is_bad_record(line: u8, word: u8, pictograph: u8) -> bool
     ensures { λ r. ⌜ r ≡ outside (coded line LineBreak.len ∷ coded word WordBreak.len ∷ mark pictograph ∷ []) ⌝ }
 {
     if is_outside(line, line_break::LEN) {
