@@ -4,3 +4,5 @@ pub mod Laws
 pub mod Turns
 pub mod RunLaws
 pub mod NextArms
+pub mod Folds
+pub mod ByTable

@@ -3,13 +3,15 @@ use Prim.Native.Nat.{ℕ, zero, suc, _+_, _<_, _≤_}
 use mathlib.Core.Path.{_≡_, refl, sym, _∙_}
 use mathlib.Core.Bool.{Bool, true, false, not, _||_}
 use mathlib.Core.List.{List, [], _∷_, _++_}
-use native.Mathlib.Nat.{le-refl}
+use native.Mathlib.Nat.{add-zero}
 use native.Mathlib.Omega.{arith}
 use lib.Dec.{eqb, leb, ltb}
 use lib.ListN.{length, drop}
 use lib.Seq.{drop-at}
 use borrow.Author.Tests.{lt-ltb, le-ltb, eqb-true, eq-eqb}
 use Rattle.basics.proofs.Tests.{neither}
+use Rattle.basics.specs.Columns.{cells}
+use Rattle.basics.proofs.Columns.{cells-length}
 use Rattle.classes.specs.WordBreak as WordBreak
 use Rattle.records.specs.Text.{cell}
 use Rattle.records.specs.Refusals.{refusal, refuse, _⊳_, over, most, tooLong, uneven, outside, coded, mark, judgeLengths, judgeWord, wordVerdict}
@@ -19,11 +21,10 @@ use Rattle.records.specs.declared.Refusal.{Refusal}
 use Rattle.records.specs.declared.Verdict.{Verdict}
 use Rattle.records.specs.declared.Verdict.the-variants.{Accepted, Refused}
 use Rattle.words.specs.Run as Words
-use Rattle.words.proofs.Answers.{answers-length}
 use Rattle.lines.specs.LineBreak as LineBreak
 use Rattle.lines.specs.Refusals.{badTable}
 use Rattle.lines.specs.Run.{answers, judgeRecord, checkVerdict, runVerdict, runCells}
-use Rattle.lines.specs.Inner.{overlaid}
+use Rattle.lines.specs.Inner.{laidAt}
 use Rattle.lines.specs.declared.Strength.{Strength}
 use Rattle.lines.proofs.Turns.{merged-all}
 
@@ -43,7 +44,7 @@ module _ (table lines words pictographs : List ℕ) (v : Verdict) (e : v ≡ jud
 
 -- # What acceptance gives
 
-never : {A : Type 0} {r : Refusal} → Refused r ≡ Accepted → A
+pub never : {A : Type 0} {r : Refusal} → Refused r ≡ Accepted → A
 never e = absurd (let z : _≡_ {A = ℕ} 0 1 = cc in omega arith)
 
 pub passes : (a b : Verdict) → a ⊳ b ≡ Accepted → (a ≡ Accepted) × (b ≡ Accepted)
@@ -53,6 +54,15 @@ passes (Refused r) b e = never e
 pub unrefused : (test : Bool) (number : ℕ) (side : Side) (index : ℕ) → refuse test number side index ≡ Accepted → test ≡ false
 unrefused true number side index h = never h
 unrefused false number side index h = refl
+
+-- what is accepted over indices is accepted at each
+pub over-passes : (judge : ℕ → Verdict) (n i k : ℕ) → k < n → over judge i n ≡ Accepted → judge (i + k) ≡ Accepted
+unfolding over
+over-passes judge zero i k h a = absurd (omega arith)
+over-passes judge (suc n) i zero h a = rw add-zero (passes (judge i) (over judge (i + 1) n) a .0)
+over-passes judge (suc n) i (suc k) h a =
+    let e : i + 1 + k ≡ i + suc k = omega arith in
+    rw e at (over-passes judge n (i + 1) k (omega arith) (passes (judge i) (over judge (i + 1) n) a .1))
 
 -- what passes one judge at each index passes another that asks for less
 over-less : (f g : ℕ → Verdict) → ((k : ℕ) → f k ≡ Accepted → g k ≡ Accepted) → (n i : ℕ) → over f i n ≡ Accepted → over g i n ≡ Accepted
@@ -98,27 +108,28 @@ module _ (a b c : ℕ) (h : judgeLengths (a ∷ b ∷ c ∷ []) [] ≡ Accepted)
 
 -- what the line run accepts, the word run accepts
 module _ (table lines words pictographs : List ℕ) (accepted : checkVerdict table lines words pictographs ≡ Accepted) where
-  parts : (judgeLengths (length lines ∷ length words ∷ length pictographs ∷ []) [] ≡ Accepted) × (over (λ i. judgeRecord (cell lines i) (cell words i) (cell pictographs i) i) 0 (length lines) ≡ Accepted)
+  pub check-passes : (judgeLengths (length lines ∷ length words ∷ length pictographs ∷ []) [] ≡ Accepted) × ((badTable table ≡ false) × (over (λ i. judgeRecord (cell lines i) (cell words i) (cell pictographs i) i) 0 (length lines) ≡ Accepted))
   unfolding checkVerdict
-  parts =
+  check-passes =
       let p = passes (judgeLengths (length lines ∷ length words ∷ length pictographs ∷ []) []) _ accepted in
-      (p .0, passes (refuse (badTable table) 10 Neither 0) _ (p .1) .1)
+      let q = passes (refuse (badTable table) 10 Neither 0) _ (p .1) in
+      (p .0, (unrefused _ 10 Neither 0 (q .0), q .1))
 
   pub one-length : length words ≡ length lines
-  one-length = second (length lines) (length words) (length pictographs) (parts .0)
+  one-length = second (length lines) (length words) (length pictographs) (check-passes .0)
 
   pub words-accepted : wordVerdict words pictographs ≡ Accepted
   unfolding wordVerdict
   words-accepted =
       let o = over-less (λ i. judgeRecord (cell lines i) (cell words i) (cell pictographs i) i) (λ i. judgeWord (cell words i) (cell pictographs i) i)
-      (λ k. word-less (cell lines k) (cell words k) (cell pictographs k) k) (length lines) 0 (parts .1) in
-      rw (two-pass (length lines) (length words) (length pictographs) (parts .0), one-length) o
+      (λ k. word-less (cell lines k) (cell words k) (cell pictographs k) k) (length lines) 0 (check-passes .1 .1) in
+      rw (two-pass (length lines) (length words) (length pictographs) (check-passes .0), one-length) o
 
 -- # The run, where v is what the check said
 
 module _ (strength : Strength) (table lines words pictographs out : List ℕ) (v : Verdict) (e : v ≡ checkVerdict table lines words pictographs) where
   abbrev Ran : Verdict → List ℕ → Type 0
-  Ran r cells = (r ≡ runVerdict table lines words pictographs (length out)) × (cells ≡ runCells strength table lines words pictographs out)
+  Ran r cells′ = (r ≡ runVerdict table lines words pictographs (length out)) × (cells′ ≡ runCells strength table lines words pictographs out)
 
   pub ran-refused : (r : Refusal) → v ≡ Refused r → Ran v out
   unfolding runVerdict
@@ -128,14 +139,14 @@ module _ (strength : Strength) (table lines words pictographs out : List ℕ) (v
   unfolding runVerdict
   ran-short h short = rw (← e, h, lt-ltb _ _ short) (refl, refl)
 
-  -- out₁ is what the word run left, cells what the line answers made of it
-  pub ran-whole : (out₁ cells : List ℕ) → v ≡ Accepted → length lines ≤ length out → out₁ ≡ Words.runCells words pictographs out → cells ≡ overlaid strength table lines out₁ (length lines) ++ drop (length lines) out₁ → Ran Accepted cells
+  -- out₁ is what the word run left, cells′ what the line answers made of it
+  pub ran-whole : (out₁ cells′ : List ℕ) → v ≡ Accepted → length lines ≤ length out → out₁ ≡ Words.runCells words pictographs out → cells′ ≡ cells (laidAt strength table lines out₁) (length lines) ++ drop (length lines) out₁ → Ran Accepted cells′
   unfolding runVerdict Words.runVerdict
-  ran-whole out₁ cells h long w k =
+  ran-whole out₁ cells′ h long w k =
       let good : checkVerdict table lines words pictographs ≡ Accepted = sym e ∙ h in
       let n : length words ≡ length lines = one-length table lines words pictographs good in
       let room : length words ≤ length out = omega (arith, n) in
       let f : out₁ ≡ Words.answers words pictographs (length lines) ++ drop (length lines) out =
       w ∙ rw (words-accepted table lines words pictographs good, le-ltb (length out) (length words) room, n) in
       rw (← e, h, le-ltb _ _ long)
-      (refl, k ∙ rw (f, merged-all strength table lines words pictographs (drop (length lines) out) (length lines) (length lines) (le-refl (length lines)), drop-at (Words.answers words pictographs (length lines)) (drop (length lines) out) (length lines) (answers-length words pictographs (length lines))))
+      (refl, k ∙ rw (f, merged-all strength table lines words pictographs out (length lines), drop-at (Words.answers words pictographs (length lines)) (drop (length lines) out) (length lines) (cells-length (Words.answerAt words pictographs) (length lines))))

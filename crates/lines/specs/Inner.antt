@@ -1,7 +1,7 @@
 -- What only private contracts need: line answers laid over cells that hold word answers.
-use Prim.Native.Nat.{ℕ, zero, suc}
+use Prim.Native.Nat.{ℕ}
 use mathlib.Core.Bool.{cond}
-use mathlib.Core.List.{List, [], _∷_, _++_}
+use mathlib.Core.List.{List}
 use lib.Dec.{eqb}
 use Rattle.records.specs.Text.{cell}
 use Rattle.lines.specs.Rules.{boundaryCode}
@@ -12,8 +12,6 @@ use Rattle.lines.specs.declared.Strength.{Strength}
 abbrev pub merged : ℕ → ℕ → ℕ
 merged line word = cond (eqb line 0) word line
 
--- the first n cells of a column with the line answers laid over them
-unfoldable pub overlaid : Strength → List ℕ → List ℕ → List ℕ → ℕ → List ℕ
-overlaid strength table lines out zero = []
-overlaid strength table lines out (suc i) =
-    overlaid strength table lines out i ++ (merged (boundaryCode (lineAt strength table lines i)) (cell out i) ∷ [])
+-- what is laid over the cell at an index of a column
+unfoldable pub laidAt : Strength → List ℕ → List ℕ → List ℕ → ℕ → ℕ
+laidAt strength table lines out i = merged (boundaryCode (lineAt strength table lines i)) (cell out i)

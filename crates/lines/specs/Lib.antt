@@ -5,3 +5,4 @@ pub mod Run
 pub mod Inner
 pub mod NextStep
 pub mod PairTable
+pub mod Offences

@@ -3,6 +3,7 @@ use Prim.Native.Nat.{ℕ, zero, suc}
 use mathlib.Core.List.{List, [], _∷_, _++_}
 use lib.Dec.{ltb}
 use lib.ListN.{length, drop}
+use Rattle.basics.specs.Columns.{cells}
 use Rattle.classes.specs.WordBreak as WordBreak
 use Rattle.records.specs.Text.{cell}
 use Rattle.records.specs.Refusals.{refuse, _⊳_, over, coded, mark, outside, judgeLengths}
@@ -35,10 +36,8 @@ unfoldable pub answerAt : Strength → List ℕ → List ℕ → List ℕ → Li
 answerAt strength table lines words pictographs i = boundaryCode (boundaryAt strength table lines words pictographs i)
 
 -- the answers to the first n records
-unfoldable pub answers : Strength → List ℕ → List ℕ → List ℕ → List ℕ → ℕ → List ℕ
-answers strength table lines words pictographs zero = []
-answers strength table lines words pictographs (suc i) =
-    answers strength table lines words pictographs i ++ (answerAt strength table lines words pictographs i ∷ [])
+abbrev pub answers : Strength → List ℕ → List ℕ → List ℕ → List ℕ → ℕ → List ℕ
+answers strength table lines words pictographs = cells (answerAt strength table lines words pictographs)
 
 -- 4, of any of the three codes
 unfoldable pub judgeRecord : ℕ → ℕ → ℕ → ℕ → Verdict

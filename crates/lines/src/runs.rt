@@ -16,12 +16,13 @@ ghost use mathlib.Core.Path.{_≡_};
 ghost use mathlib.Core.List.{[], _∷_, _++_};
 ghost use Prim.Native.Nat.{_≤_};
 ghost use lib.ListN.{length, drop};
+ghost use Rattle.basics.specs.Columns.{cells};
 ghost use Rattle.records.specs.Text.{cell};
 ghost use Rattle.records.specs.Refusals.{over, outside, coded, mark, judgeLengths};
 ghost use Rattle.classes.specs.WordBreak as WordBreak;
 ghost use Rattle.lines.specs.LineBreak as LineBreak;
 ghost use Rattle.lines.specs.Run.{judgeRecord, checkVerdict};
-ghost use Rattle.lines.specs.Inner.{merged, overlaid};
+ghost use Rattle.lines.specs.Inner.{merged, laidAt};
 
 // 1 and 2.
 fn judge_columns(lines: usize, words: usize, pictographs: usize) -> Verdict
@@ -117,7 +118,7 @@ fn merge(line: u8, word: u8) -> u8
 // The line answers to all records, laid over as many cells.
 pub(crate) fn lay(table: &[u8], strength: Strength, lines: &[u8], out: &mut [u8])
     requires { ⌜ length (now lines) ≤ length (now out) ⌝ }
-    ensures { λ _. ⌜ now (out .exit) ≡ overlaid strength (now (table .entry)) (now (lines .entry)) (now (out .entry)) (length (now (lines .entry))) ++ drop (length (now (lines .entry))) (now (out .entry)) ⌝ }
+    ensures { λ _. ⌜ now (out .exit) ≡ cells (laidAt strength (now (table .entry)) (now (lines .entry)) (now (out .entry))) (length (now (lines .entry))) ++ drop (length (now (lines .entry))) (now (out .entry)) ⌝ }
 {
     let mut state = LineState::start();
     let mut i: usize = 0;

@@ -2,16 +2,18 @@ use Prim.Native.Nat.{_≤_, _-_}
 use mathlib.Core.Path.{_≡_, refl}
 use lib.ListN.{length}
 use native.Mathlib.Omega.{arith}
+use Rattle.basics.specs.Columns.{cells}
+use Rattle.basics.proofs.Columns.{Written}
 use Rattle.lines.specs.Run.{stateAt}
-use Rattle.lines.specs.Inner.{overlaid}
-use Rattle.lines.proofs.Turns.{Cells, turn-state, turn-cells}
+use Rattle.lines.specs.Inner.{laidAt}
+use Rattle.lines.proofs.Turns.{turn-state, turn-cells}
 use borrow.Author.Needs.{needs}
 use Rattle.lines.proofs.runs.lay.Statement.{statement}
 use Rattle.lines.proofs.runs.lay.Tie as tie
 
 abbrev Inv-loop : tie.InvT-loop
 Inv-loop table strength lines out₀ state₀ i₀ out state i =
-    (i ≤ length lines) × ((length out ≡ length out₀) × ((state ≡ stateAt table lines i) × Cells strength table lines out₀ i out))
+    (i ≤ length lines) × ((length out ≡ length out₀) × ((state ≡ stateAt table lines i) × Written (laidAt strength table lines out₀) out₀ i out))
 
 abbrev μ-loop : tie.MeasureT-loop
 μ-loop table strength lines out₀ state₀ i₀ out state i = length lines - i
@@ -20,7 +22,7 @@ start-requires : tie.Need-start-requires Inv-loop μ-loop
 start-requires c κs = search needs
 
 loop-holds : tie.Need-loop-holds Inv-loop μ-loop
-loop-holds c = unfold stateAt overlaid in (search needs, (refl, (c .start .ensures, refl)))
+loop-holds c = unfold stateAt cells in (search needs, (refl, (c .start .ensures, refl)))
 
 cell8-requires : tie.Need-cell8-requires Inv-loop μ-loop
 cell8-requires c κs = search needs
