@@ -36,7 +36,7 @@ state-alike a b table s class = go (stepVerdict table s class)
     go (Refused r) = refl
 
 -- no cell of a list of which no number passes a test passes it; past the end a cell is 0
-none-at : (p : ℕ → Bool) (xs : List ℕ) (i : ℕ) → any p xs ≡ false → p 0 ≡ false → p (getD xs i 0) ≡ false
+pub none-at : (p : ℕ → Bool) (xs : List ℕ) (i : ℕ) → any p xs ≡ false → p 0 ≡ false → p (getD xs i 0) ≡ false
 none-at p [] i h z = z
 none-at p (x ∷ xs) zero h z = neither (p x) (any p xs) h .0
 none-at p (x ∷ xs) (suc i) h z = none-at p xs i (neither (p x) (any p xs) h .1) z

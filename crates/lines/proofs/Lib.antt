@@ -1,6 +1,7 @@
 pub mod Arms
 pub mod Table
 pub mod Laws
+pub mod Greatest
 pub mod Turns
 pub mod RunLaws
 pub mod NextArms

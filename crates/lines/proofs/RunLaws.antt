@@ -11,6 +11,7 @@ use lib.Seq.{drop-at}
 use borrow.Author.Tests.{lt-ltb, le-ltb, eqb-true, eq-eqb}
 use Rattle.basics.proofs.Tests.{neither}
 use Rattle.basics.specs.Columns.{cells}
+use Rattle.basics.specs.Sets.{any}
 use Rattle.basics.proofs.Columns.{cells-length}
 use Rattle.classes.specs.WordBreak as WordBreak
 use Rattle.records.specs.Text.{cell}
@@ -24,8 +25,9 @@ use Rattle.words.specs.Run as Words
 use Rattle.lines.specs.LineBreak as LineBreak
 use Rattle.lines.specs.Refusals.{badTable}
 use Rattle.lines.specs.Run.{answers, judgeRecord, checkVerdict, runVerdict, runCells}
-use Rattle.lines.specs.Inner.{laidAt}
+use Rattle.lines.specs.Inner.{laidAt, unlisted}
 use Rattle.lines.specs.declared.Strength.{Strength}
+use Rattle.lines.proofs.Laws.{none-at}
 use Rattle.lines.proofs.Turns.{merged-all}
 
 -- the check, where v is what was said of the lengths
@@ -41,6 +43,28 @@ module _ (table lines words pictographs : List ℕ) (v : Verdict) (e : v ≡ jud
   pub check-records : (t : Bool) (q : Verdict) → v ≡ Accepted → t ≡ badTable table → t ≡ false → q ≡ over (λ i. judgeRecord (cell lines i) (cell words i) (cell pictographs i) i) 0 (length lines) → q ≡ checkVerdict table lines words pictographs
   unfolding checkVerdict
   check-records t q h f g k = rw (← e, h, ← f, g) k
+
+-- a judge that accepts everything
+over-all : (f : ℕ → Verdict) → ((k : ℕ) → f k ≡ Accepted) → (n i : ℕ) → over f i n ≡ Accepted
+unfolding over
+over-all f e zero i = refl
+over-all f e (suc n) i = rw (e i) (over-all f e n (i + 1))
+
+-- where every code is of its list, no record is refused
+module _ (lines words pictographs : List ℕ) (none : unlisted lines words pictographs ≡ false) where
+  listed-records : (n : ℕ) → over (λ i. judgeRecord (cell lines i) (cell words i) (cell pictographs i) i) 0 n ≡ Accepted
+  unfolding judgeRecord
+  listed-records n =
+      let a : _ = neither (any (λ v. leb LineBreak.len v) lines) (any (λ v. leb WordBreak.len v) words || any (λ v. leb 2 v) pictographs) none in
+      let b : _ = neither (any (λ v. leb WordBreak.len v) words) (any (λ v. leb 2 v) pictographs) (a .1) in
+      over-all _ (λ k. rw (none-at (λ v. leb LineBreak.len v) lines k (a .0) refl, none-at (λ v. leb WordBreak.len v) words k (b .0) refl, none-at (λ v. leb 2 v) pictographs k (b .1) refl)) n 0
+
+  listed-checked : (table : List ℕ) (v : Verdict) (t : Bool) → v ≡ judgeLengths (length lines ∷ length words ∷ length pictographs ∷ []) [] → v ≡ Accepted → t ≡ badTable table → t ≡ false → Accepted ≡ checkVerdict table lines words pictographs
+  unfolding checkVerdict
+  listed-checked table v t e h f g = rw (← e, h, ← f, g) (sym (listed-records (length lines)))
+
+pub check-listed : (table lines words pictographs : List ℕ) (v : Verdict) (t u : Bool) → v ≡ judgeLengths (length lines ∷ length words ∷ length pictographs ∷ []) [] → v ≡ Accepted → t ≡ badTable table → t ≡ false → u ≡ unlisted lines words pictographs → u ≡ false → Accepted ≡ checkVerdict table lines words pictographs
+check-listed table lines words pictographs v t u e h f g k l = listed-checked lines words pictographs (sym k ∙ l) table v t e h f g
 
 -- # What acceptance gives
 

@@ -3,32 +3,16 @@ use crate::LineState;
 use crate::Previous;
 use crate::line_break;
 use crate::rules::WIDTH;
+use crate::sweeps::names_no_row;
 use records::Refusal;
 use records::Side;
 use records::Verdict;
 use records::is_outside;
 ghost use mathlib.Core.Path.{_≡_};
-ghost use lib.Dec.{leb};
-ghost use Rattle.basics.specs.Sets.{any};
-ghost use Rattle.lines.specs.Rules.{rowIn};
 ghost use Rattle.lines.specs.Refusals.{badTable, badPrevious, badState, stepVerdict};
 
 // The row in which every text starts is the last that a table must have.
 const FEWEST: usize = 45;
-
-// Whether a cell names a row that the table has not.
-fn names_no_row(table: &[u8], rows: usize) -> bool
-    ensures { λ r. ⌜ r ≡ any (λ v. leb rows (rowIn v)) (now (table .entry)) ⌝ }
-{
-    let mut i: usize = 0;
-    while i < table.len() {
-        if rows <= (table[i] % 64) as usize {
-            return true;
-        }
-        i += 1;
-    }
-    false
-}
 
 pub(crate) fn is_bad_table(table: &[u8]) -> bool
     ensures { λ r. ⌜ r ≡ badTable (now (table .entry)) ⌝ }

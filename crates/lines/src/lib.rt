@@ -6,6 +6,7 @@ mod next;
 pub mod pair_table;
 mod rules;
 mod runs;
+mod sweeps;
 
 use next::or_word;
 use records::Refusal;

@@ -3,6 +3,7 @@ use crate::LineState;
 use crate::Strength;
 use crate::judge::is_bad_table;
 use crate::line_break;
+use crate::sweeps::any_from;
 use classes::word_break;
 use records::MOST;
 use records::Refusal;
@@ -22,7 +23,7 @@ ghost use Rattle.records.specs.Refusals.{over, outside, coded, mark, judgeLengt
 ghost use Rattle.classes.specs.WordBreak as WordBreak;
 ghost use Rattle.lines.specs.LineBreak as LineBreak;
 ghost use Rattle.lines.specs.Run.{judgeRecord, checkVerdict};
-ghost use Rattle.lines.specs.Inner.{merged, laidAt};
+ghost use Rattle.lines.specs.Inner.{merged, laidAt, unlisted};
 
 // 1 and 2.
 fn judge_columns(lines: usize, words: usize, pictographs: usize) -> Verdict
@@ -92,6 +93,19 @@ fn judge_records(lines: &[u8], words: &[u8], pictographs: &[u8]) -> Verdict
     Verdict::Accepted
 }
 
+// Whether a code is outside its list. Where none is, no record has to be judged by itself.
+fn is_unlisted(lines: &[u8], words: &[u8], pictographs: &[u8]) -> bool
+    ensures { λ r. ⌜ r ≡ unlisted (now (lines .entry)) (now (words .entry)) (now (pictographs .entry)) ⌝ }
+{
+    if any_from(lines, line_break::LEN) {
+        return true;
+    }
+    if any_from(words, word_break::LEN) {
+        return true;
+    }
+    any_from(pictographs, 2)
+}
+
 pub(crate) fn check(table: &[u8], lines: &[u8], words: &[u8], pictographs: &[u8]) -> Verdict
     ensures { λ r. ⌜ r ≡ checkVerdict (now (table .entry)) (now (lines .entry)) (now (words .entry)) (now (pictographs .entry)) ⌝ }
 {
@@ -106,7 +120,10 @@ pub(crate) fn check(table: &[u8], lines: &[u8], words: &[u8], pictographs: &[u8]
             index: 0,
         });
     }
-    judge_records(lines, words, pictographs)
+    if is_unlisted(lines, words, pictographs) {
+        return judge_records(lines, words, pictographs);
+    }
+    Verdict::Accepted
 }
 
 fn merge(line: u8, word: u8) -> u8
