@@ -1,10 +1,9 @@
 -- What is true of every run of `next`: it is the fold of the step, its states never leave the table's rows, and where word stands.
 -- Assumes nothing.
-use Prim.Native.Nat.{ℕ, zero, suc, _+_, _*_, _/_, _<_, _≤_}
-use mathlib.Core.Path.{_≡_, refl, sym, _∙_, ap}
-use mathlib.Core.Bool.{Bool, true, false, _||_, false≢true}
+use Prim.Native.Nat.{ℕ, zero, suc, _+_, _<_, _≤_}
+use mathlib.Core.Path.{_≡_, refl, ap}
+use mathlib.Core.Bool.{true, false}
 use mathlib.Core.List.{List, [], _∷_}
-use native.Mathlib.Nat.{zero-add}
 use native.Mathlib.Omega.{arith}
 use native.Mathlib.Numerals.{add-one}
 use lib.Dec.{eqb, leb}
@@ -14,8 +13,9 @@ use Rattle.basics.proofs.Columns.{written-cell, kept-cell}
 use Rattle.basics.proofs.Tests.{by-test, neither}
 use Rattle.classes.specs.WordBreak as WordBreak
 use Rattle.records.specs.Text.{cell}
-use Rattle.records.specs.Refusals.{refuse, _⊳_, over, outside, coded, mark}
+use Rattle.records.specs.Refusals.{refuse, outside, coded, mark}
 use Rattle.records.proofs.Unique.{unique}
+use Rattle.records.proofs.Verdicts.{never, unrefused, passes, over-each}
 use Rattle.records.specs.declared.Side.the-variants.{Record, Neither}
 use Rattle.records.specs.declared.Refusal.{Refusal}
 use Rattle.records.specs.declared.Verdict.{Verdict}
@@ -28,18 +28,17 @@ use Rattle.words.specs.declared.WordState.{WordState}
 use Rattle.words.specs.declared.WordStep.{WordStep}
 use Rattle.words.proofs.Laws.{answer-bit, run-folds}
 use Rattle.lines.specs.LineBreak as LineBreak
-use Rattle.lines.specs.Rules.{width, boundaryCode, lineAnswer, lineAfter, orWord}
+use Rattle.lines.specs.Rules.{boundaryCode, lineAnswer, lineAfter, orWord}
 use Rattle.lines.specs.Refusals.{rowsOf, badTable, badPrevious, badState, stepVerdict, stepOf}
-use Rattle.lines.specs.NextStep.{badRecord, badStates, nextVerdict, nextRuled, nextOf}
+use Rattle.lines.specs.NextStep.{badRecord, nextVerdict, nextRuled, nextOf}
 use Rattle.lines.specs.Run.{stateAt, lineAt, boundaryAt, answerAt, judgeRecord, checkVerdict, runVerdict, runCells}
 use Rattle.lines.specs.declared.Strength.{Strength}
 use Rattle.lines.specs.declared.Boundary.{Boundary}
 use Rattle.lines.specs.declared.Boundary.the-variants as Boundary
-use Rattle.lines.specs.declared.LineState.{LineState}
 use Rattle.lines.specs.declared.BoundaryState.{BoundaryState}
 use Rattle.lines.specs.declared.BoundaryStep.{BoundaryStep}
 use Rattle.lines.proofs.Laws.{enough-rows, row-stays, never-word}
-use Rattle.lines.proofs.RunLaws.{never, passes, unrefused, over-passes, check-passes, one-length, words-accepted}
+use Rattle.lines.proofs.RunLaws.{check-passes, one-length, words-accepted}
 
 -- both states before the record at an index
 abbrev pub bothAt : List ℕ → List ℕ → List ℕ → List ℕ → ℕ → BoundaryState
@@ -59,7 +58,7 @@ module _ (table lines words pictographs : List ℕ) (accepted : checkVerdict tab
   unfolding judgeRecord
   class-listed i h =
       let one : judgeRecord (cell lines i) (cell words i) (cell pictographs i) i ≡ Accepted =
-      rw (zero-add i) at (over-passes (λ k. judgeRecord (cell lines k) (cell words k) (cell pictographs k) k) (length lines) 0 i h (check-passes table lines words pictographs accepted .1 .1)) in
+      over-each (λ k. judgeRecord (cell lines k) (cell words k) (cell pictographs k) k) (length lines) 0 (check-passes table lines words pictographs accepted .1 .1) i (omega arith) (omega arith) in
       neither (leb LineBreak.len (cell lines i)) (outside (coded (cell words i) WordBreak.len ∷ mark (cell pictographs i) ∷ [])) (unrefused _ 4 Record i one) .0
 
   -- "A text of class 0 to 42 and any accepted table never leaves the rows."

@@ -25,7 +25,7 @@ use Rattle.lines.specs.declared.Boundary.{Boundary}
 use Rattle.lines.specs.declared.Boundary.the-variants as Boundary
 use Rattle.lines.specs.declared.LineState.{LineState}
 use Rattle.lines.specs.declared.BoundaryState.{BoundaryState}
-use Rattle.lines.proofs.RunLaws.{passes, unrefused}
+use Rattle.records.proofs.Verdicts.{passes, unrefused}
 
 -- where the line answer is none
 module _ (line : Boundary) (word : ℕ) (r : Boundary) (e : line ≡ Boundary.None) where

@@ -1,9 +1,8 @@
 -- How the run's check and the run come out. Assumes nothing.
-use Prim.Native.Nat.{ℕ, zero, suc, _+_, _<_, _≤_}
+use Prim.Native.Nat.{ℕ, _+_, _<_, _≤_}
 use mathlib.Core.Path.{_≡_, refl, sym, _∙_}
 use mathlib.Core.Bool.{Bool, true, false, not, _||_}
 use mathlib.Core.List.{List, [], _∷_, _++_}
-use native.Mathlib.Nat.{add-zero}
 use native.Mathlib.Omega.{arith}
 use lib.Dec.{eqb, leb, ltb}
 use lib.ListN.{length, drop}
@@ -15,8 +14,7 @@ use Rattle.basics.specs.Sets.{any}
 use Rattle.basics.proofs.Columns.{cells-length}
 use Rattle.classes.specs.WordBreak as WordBreak
 use Rattle.records.specs.Text.{cell}
-use Rattle.records.specs.Refusals.{refusal, refuse, _⊳_, over, most, tooLong, uneven, outside, coded, mark, judgeLengths, judgeWord, wordVerdict}
-use Rattle.records.specs.declared.Side.{Side}
+use Rattle.records.specs.Refusals.{refusal, refuse, over, most, tooLong, uneven, outside, coded, mark, judgeLengths, judgeWord, wordVerdict}
 use Rattle.records.specs.declared.Side.the-variants.{Record, Neither}
 use Rattle.records.specs.declared.Refusal.{Refusal}
 use Rattle.records.specs.declared.Verdict.{Verdict}
@@ -27,6 +25,7 @@ use Rattle.lines.specs.Refusals.{badTable}
 use Rattle.lines.specs.Run.{answers, judgeRecord, checkVerdict, runVerdict, runCells}
 use Rattle.lines.specs.Inner.{laidAt, unlisted}
 use Rattle.lines.specs.declared.Strength.{Strength}
+use Rattle.records.proofs.Verdicts.{unrefused, passes, over-each, each-over}
 use Rattle.lines.proofs.Laws.{none-at}
 use Rattle.lines.proofs.Turns.{merged-all}
 
@@ -44,12 +43,6 @@ module _ (table lines words pictographs : List ℕ) (v : Verdict) (e : v ≡ jud
   unfolding checkVerdict
   check-records t q h f g k = rw (← e, h, ← f, g) k
 
--- a judge that accepts everything
-over-all : (f : ℕ → Verdict) → ((k : ℕ) → f k ≡ Accepted) → (n i : ℕ) → over f i n ≡ Accepted
-unfolding over
-over-all f e zero i = refl
-over-all f e (suc n) i = rw (e i) (over-all f e n (i + 1))
-
 -- where every code is of its list, no record is refused
 module _ (lines words pictographs : List ℕ) (none : unlisted lines words pictographs ≡ false) where
   listed-records : (n : ℕ) → over (λ i. judgeRecord (cell lines i) (cell words i) (cell pictographs i) i) 0 n ≡ Accepted
@@ -57,7 +50,7 @@ module _ (lines words pictographs : List ℕ) (none : unlisted lines words picto
   listed-records n =
       let a : _ = neither (any (λ v. leb LineBreak.len v) lines) (any (λ v. leb WordBreak.len v) words || any (λ v. leb 2 v) pictographs) none in
       let b : _ = neither (any (λ v. leb WordBreak.len v) words) (any (λ v. leb 2 v) pictographs) (a .1) in
-      over-all _ (λ k. rw (none-at (λ v. leb LineBreak.len v) lines k (a .0) refl, none-at (λ v. leb WordBreak.len v) words k (b .0) refl, none-at (λ v. leb 2 v) pictographs k (b .1) refl)) n 0
+      each-over _ n 0 (λ k l h. rw (none-at (λ v. leb LineBreak.len v) lines k (a .0) refl, none-at (λ v. leb WordBreak.len v) words k (b .0) refl, none-at (λ v. leb 2 v) pictographs k (b .1) refl))
 
   listed-checked : (table : List ℕ) (v : Verdict) (t : Bool) → v ≡ judgeLengths (length lines ∷ length words ∷ length pictographs ∷ []) [] → v ≡ Accepted → t ≡ badTable table → t ≡ false → Accepted ≡ checkVerdict table lines words pictographs
   unfolding checkVerdict
@@ -67,34 +60,6 @@ pub check-listed : (table lines words pictographs : List ℕ) (v : Verdict) (t u
 check-listed table lines words pictographs v t u e h f g k l = listed-checked lines words pictographs (sym k ∙ l) table v t e h f g
 
 -- # What acceptance gives
-
-pub never : {A : Type 0} {r : Refusal} → Refused r ≡ Accepted → A
-never e = absurd (let z : _≡_ {A = ℕ} 0 1 = cc in omega arith)
-
-pub passes : (a b : Verdict) → a ⊳ b ≡ Accepted → (a ≡ Accepted) × (b ≡ Accepted)
-passes Accepted b e = (refl, e)
-passes (Refused r) b e = never e
-
-pub unrefused : (test : Bool) (number : ℕ) (side : Side) (index : ℕ) → refuse test number side index ≡ Accepted → test ≡ false
-unrefused true number side index h = never h
-unrefused false number side index h = refl
-
--- what is accepted over indices is accepted at each
-pub over-passes : (judge : ℕ → Verdict) (n i k : ℕ) → k < n → over judge i n ≡ Accepted → judge (i + k) ≡ Accepted
-unfolding over
-over-passes judge zero i k h a = absurd (omega arith)
-over-passes judge (suc n) i zero h a = rw add-zero (passes (judge i) (over judge (i + 1) n) a .0)
-over-passes judge (suc n) i (suc k) h a =
-    let e : i + 1 + k ≡ i + suc k = omega arith in
-    rw e at (over-passes judge n (i + 1) k (omega arith) (passes (judge i) (over judge (i + 1) n) a .1))
-
--- what passes one judge at each index passes another that asks for less
-over-less : (f g : ℕ → Verdict) → ((k : ℕ) → f k ≡ Accepted → g k ≡ Accepted) → (n i : ℕ) → over f i n ≡ Accepted → over g i n ≡ Accepted
-unfolding over
-over-less f g less zero i h = refl
-over-less f g less (suc n) i h =
-    let p : (f i ≡ Accepted) × (over f (i + 1) n ≡ Accepted) = passes (f i) (over f (i + 1) n) h in
-    rw (less i (p .0)) (over-less f g less n (i + 1) (p .1))
 
 word-less : (line word pictograph i : ℕ) → judgeRecord line word pictograph i ≡ Accepted → judgeWord word pictograph i ≡ Accepted
 unfolding judgeRecord judgeWord
@@ -145,8 +110,8 @@ module _ (table lines words pictographs : List ℕ) (accepted : checkVerdict tab
   pub words-accepted : wordVerdict words pictographs ≡ Accepted
   unfolding wordVerdict
   words-accepted =
-      let o = over-less (λ i. judgeRecord (cell lines i) (cell words i) (cell pictographs i) i) (λ i. judgeWord (cell words i) (cell pictographs i) i)
-      (λ k. word-less (cell lines k) (cell words k) (cell pictographs k) k) (length lines) 0 (check-passes .1 .1) in
+      let o = each-over (λ i. judgeWord (cell words i) (cell pictographs i) i) (length lines) 0
+      (λ k l h. word-less (cell lines k) (cell words k) (cell pictographs k) k (over-each (λ i. judgeRecord (cell lines i) (cell words i) (cell pictographs i) i) (length lines) 0 (check-passes .1 .1) k l h)) in
       rw (two-pass (length lines) (length words) (length pictographs) (check-passes .0), one-length) o
 
 -- # The run, where v is what the check said

@@ -1,5 +1,4 @@
 use Rattle.basics.proofs.Choices.{lt-then, lt-else}
-use borrow.Author.Needs.{needs}
 use Rattle.lines.proofs.sweeps.larger.Statement.{statement}
 use Rattle.lines.proofs.sweeps.larger.Tie as tie
 
