@@ -1,5 +1,6 @@
 // The probe of lines, included beside analyze.rs and beside its copy over a lent table: it sets any
-// state, and asks `check_line` and `next` themselves.
+// state, and asks `check_line` and `next` themselves. Every probe lends a text by one type of iterator,
+// so that there is one copy of each function whose blocks are counted.
 
 use super::{Lent, LineState, Record, State, Strength};
 
@@ -51,8 +52,8 @@ pub fn next_step(
         next_emoji: flags.1,
         ..BoundaryState::new()
     };
-    let mut rest = [record].into_iter().chain(next.map(Record::following)).map(Record::character);
-    let (_, answer) = inner.next(&mut rest).unwrap();
+    let text: Vec<Record> = [record].into_iter().chain(next.map(Record::following)).collect();
+    let (_, answer) = inner.next(&mut Record::text(&text).iter()).unwrap();
     (answer, line_state_of(&inner), word_state_of(&inner))
 }
 
@@ -60,6 +61,7 @@ pub fn next_step(
 pub fn line_run(strength: Strength, records: &[Record]) -> Vec<Boundary> {
     Lent::Records.lend();
     let mut inner = BoundaryState { strength: strength_of(strength), ..BoundaryState::new() };
-    let mut rest = records.iter().map(|record| record.character());
+    let text = Record::text(records);
+    let mut rest = text.iter();
     std::iter::from_fn(|| inner.next(&mut rest)).map(|(_, answer)| answer).collect()
 }

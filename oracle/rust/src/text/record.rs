@@ -10,8 +10,13 @@ pub struct Record {
 }
 
 impl Record {
+    /// Records as the text that the Rust is given.
+    pub fn text(records: &[Self]) -> Vec<char> {
+        records.iter().map(|record| record.character()).collect()
+    }
+
     /// A record as a character that `of_character` takes apart again.
-    pub fn character(self) -> char {
+    fn character(self) -> char {
         let classes = self.line as u32 * WordBreak::ALL.len() as u32 + self.word as u32;
         char::from_u32(classes * 2 + self.pictograph as u32).unwrap()
     }

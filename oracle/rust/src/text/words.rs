@@ -16,15 +16,16 @@ pub fn step(state: State, flags: (bool, bool), record: Record, next: Option<Word
         next_emoji: flags.1,
         ..BoundaryState::new()
     };
-    let mut rest = next.map(|class| Record::following(class).character()).into_iter();
-    let answer = inner.check_word(record.properties(), &mut rest);
+    let rest: Vec<Record> = next.map(Record::following).into_iter().collect();
+    let answer = inner.check_word(record.properties(), &mut Record::text(&rest).iter());
     (answer, word_state_of(&inner))
 }
 
 pub fn run(records: &[Record]) -> Vec<bool> {
     Lent::Records.lend();
     let mut state = BoundaryState::new();
-    let mut rest = records.iter().map(|record| record.character());
+    let text = Record::text(records);
+    let mut rest = text.iter();
     let mut answers = Vec::new();
     while let Some(ch) = rest.next() {
         answers.push(state.check_word(ch.properties(), &mut rest));
