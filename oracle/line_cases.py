@@ -217,8 +217,8 @@ def spelled_out(cells):
 
 
 def long_cases():
-    """1 at both edges, and before all others; tables of the most cells, and the crate's own lent cell by
-    cell."""
+    """1 at both edges, and before all others; tables of 94 rows and of the most cells that one count can
+    say, and the crate's own lent cell by cell."""
     crate = spelled_out(crate_table().cells)
     for length in (LONGEST, LONGEST + 1):
         yield run_case(["1,8,0"] * length)
@@ -230,6 +230,8 @@ def long_cases():
         for row in range(0, CRATE_ROWS, 7):
             yield line_case(f"{row},{row % len(LINE)}", (row * 3) % len(LINE), strength, crate)
     most = spelled_out((cell * 37 + cell // 64) % 256 for cell in range(MOST_ROWS * WIDTH))
+    for count in (65535, 65535 // WIDTH * WIDTH):
+        yield line_case("255,42", 42, table=f"{count}*191")
     yield line_case("93,42", 42, table=most)
     yield run_case([f"{code},0,0" for code in range(len(LINE))], table=most)
 
@@ -250,7 +252,7 @@ def not_of_layout():
                 "L;Normal;crate;1;1,8,0 ", "L;Normal;crate;2;1,8,0  1,8,0", "L;Normal;crate;1;1,8", "L;Normal;crate;1;1,8,0,0",
                 "L;Normal;crate;1;-,8,0", "L;Normal;crate;1;1,8,0;", "L;KeepAll;crate;1;1,8,0\r", "N;Normal;crate;1;1,8,0"]
     for table in ("1980*0 ", " 1980*0", "990*0  990*0", "1980*", "*0", "*", "1980**0", "1980*0*0", "1980 *0", "1980* 0", "1980*256",
-                  "65536*0", "65535*0", "65516*0", "0*256", "-1*0", "01980*000", "1980*0,0", "1980*-", "1980x0", "256", "0" * 20, "1,2",
+                  "65536*0", "0*256", "-1*0", "01980*000", "1980*0,0", "1980*-", "1980x0", "256", "0" * 20, "1,2",
                   "990*0 crate", "990*0 0*44 990*0", "\u00b2*0"):
         yield line_case(START, 1, table=table)
         yield run_case(["1,8,0"], table=table)
