@@ -4,7 +4,7 @@ and others; and the corners whose answers were written down by hand (line_corner
 import itertools
 import pathlib
 
-from line_reading import FEWEST_ROWS, LINE, NORMAL, STRENGTHS, WIDTH, crate_table
+from line_reading import LINE, NORMAL, STRENGTHS, WIDTH, crate_table
 from reading import LONGEST, WORD
 
 CORNERS = pathlib.Path(__file__).resolve().parent / "line_corners.txt"
