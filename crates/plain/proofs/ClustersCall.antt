@@ -37,7 +37,7 @@ use Rattle.plain.proofs.ClustersAfter.{Stands, After, seq-after, choose
 pub record Shows (stream breaks marks : List ℕ) : Type 0 where
   pub size : length stream ≡ length breaks
   pub kind : (i : ℕ) → i < length breaks → kindOf (tokenAt stream i) ≡ cell breaks i
-  pub brk : (i : ℕ) → i < length breaks → breakOf (tokenAt stream i) ≡ cell breaks i
+  pub break : (i : ℕ) → i < length breaks → breakOf (tokenAt stream i) ≡ cell breaks i
   pub emoji : (i : ℕ) → i < length breaks → emojiOf (tokenAt stream i) ≡ cell marks i
 
 or-right : (a b : Bool) → b ≡ true → (a || b) ≡ true
@@ -76,7 +76,7 @@ module _ (stream breaks marks : List ℕ) (shows : Shows stream breaks marks) (p
     kind-is k = ap (λ x. eqb x k) (shows .kind j in-columns)
 
     break-is : (k : ℕ) → isBreak k stream j ≡ eqb (cell breaks j) k
-    break-is k = ap (λ x. eqb x k) (shows .brk j in-columns)
+    break-is k = ap (λ x. eqb x k) (shows .break j in-columns)
 
     emoji-is : isEmoji stream j ≡ eqb (cell marks j) 1
     emoji-is = ap (λ x. eqb x 1) (shows .emoji j in-columns)

@@ -95,7 +95,7 @@ module _ (mode : Mode) (t : Text) (accepted : verdict Simple t ≡ Accepted) whe
   stream-shows = record {
     size = stream-length;
     kind = λ i h. ap kindOf (own-token i h) ∙ own-says i h .its-kind;
-    brk = λ i h. ap breakOf (own-token i h) ∙ own-says i h .its-break;
+    break = λ i h. ap breakOf (own-token i h) ∙ own-says i h .its-break;
     emoji = λ i h. ap emojiOf (own-token i h) ∙ own-says i h .its-emoji;
   }
 

@@ -51,13 +51,13 @@ over-some p (suc n) i = go (p i) (over-some p n (i + 1))
 part-lines : (parser : Parser) (p : PartRow) (i : ℕ) → firstLine (partLines parser p) Part i ≡ judgePart parser p i
 unfolding judgePart
 part-lines parser p i =
-    ap (λ v. refuse (badScalar (p .scalar)) 3 Part i ⊳ refuse (outside (partCodes p)) 4 Part i ⊳ v) (alone (refuse (barred parser (p .scalar) (p .uclass)) 6 Part i))
+    ap (λ v. refuse (badScalar (p .scalar)) 3 Part i ⊳ refuse (outside (partCodes p)) 4 Part i ⊳ v) (alone (refuse (barred parser (p .scalar) (p .uses)) 6 Part i))
 
 record-lines : (parser : Parser) (parts : ℕ) (r : Row) (i : ℕ) → firstLine (recordLines parser parts r) Record i ≡ judgeRecord parser r parts i
 unfolding judgeRecord
 record-lines parser parts r i =
     ap (λ v. refuse (badScalar (r .scalar)) 3 Record i ⊳ refuse (outside (recordClasses r) || outside (recordMarks r)) 4 Record i ⊳ refuse (badRun r parts) 5 Record i ⊳ v)
-    (alone (refuse (barred parser (r .scalar) (r .uclass)) 6 Record i))
+    (alone (refuse (barred parser (r .scalar) (r .uses)) 6 Record i))
 
 length-lines : (records parts : List ℕ) → firstLine (lengthLines records parts) Neither 0 ≡ judgeLengths records parts
 unfolding judgeLengths

@@ -88,16 +88,16 @@ columns-pass wides bytes firsts b s p e =
     record {
       parts = λ parser. parts-pass parser _ (λ i h. record {
         scalar = p i .0;
-        brk = b 12 (omega arith) i;
-        uclass = b 13 (omega arith) i;
+        breaks = b 12 (omega arith) i;
+        uses = b 13 (omega arith) i;
         category = b 14 (omega arith) i;
         free = spared parser _ _ (p i .1);
       });
       rows = λ parser. rows-pass parser _ _ (λ i h. record {
         scalar = s i .0;
-        brk = b 0 (omega arith) i;
-        uclass = b 1 (omega arith) i;
-        mclass = b 2 (omega arith) i;
+        breaks = b 0 (omega arith) i;
+        uses = b 1 (omega arith) i;
+        myanmar = b 2 (omega arith) i;
         category = b 3 (omega arith) i;
         word = b 4 (omega arith) i;
         semoji = b 5 (omega arith) i;

@@ -124,14 +124,14 @@ pub record Asks (parser : Parser) (v : Verdict) : Type 0 where
 
 abbrev pub partLines : Parser → PartRow → List Line
 partLines parser p =
-    line 3 (badScalar (p .scalar)) ∷ line 4 (outside (partCodes p)) ∷ line 6 (barred parser (p .scalar) (p .uclass)) ∷ []
+    line 3 (badScalar (p .scalar)) ∷ line 4 (outside (partCodes p)) ∷ line 6 (barred parser (p .scalar) (p .uses)) ∷ []
 
 abbrev pub recordLines : Parser → ℕ → Row → List Line
 recordLines parser parts r =
     line 3 (badScalar (r .scalar))
     ∷ line 4 (outside (recordClasses r) || outside (recordMarks r))
     ∷ line 5 (badRun r parts)
-    ∷ line 6 (barred parser (r .scalar) (r .uclass))
+    ∷ line 6 (barred parser (r .scalar) (r .uses))
     ∷ []
 
 abbrev pub lengthLines : List ℕ → List ℕ → List Line

@@ -90,9 +90,9 @@ abbrev pub rowOf : Records → ℕ → Row
 rowOf r i =
     record {
       scalar = cell (r .scalars) i;
-      brk = cell (r .breaks) i;
-      uclass = cell (r .uses) i;
-      mclass = cell (r .myanmars) i;
+      breaks = cell (r .breaks) i;
+      uses = cell (r .uses) i;
+      myanmar = cell (r .myanmars) i;
       category = cell (r .categories) i;
       word = cell (r .words) i;
       semoji = cell (r .semojis) i;
@@ -108,4 +108,4 @@ rowOf r i =
 abbrev pub partOf : Parts → ℕ → PartRow
 partOf p i =
     record
-    { scalar = cell (p .pscalars) i; brk = cell (p .pbreaks) i; uclass = cell (p .puses) i; category = cell (p .pcategories) i }
+    { scalar = cell (p .pscalars) i; breaks = cell (p .pbreaks) i; uses = cell (p .puses) i; category = cell (p .pcategories) i }

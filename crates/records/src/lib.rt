@@ -76,9 +76,9 @@ pub enum Verdict {
 // The cells of one record.
 pub struct Row {
     pub scalar: u32,
-    pub brk: u8,
-    pub uclass: u8,
-    pub mclass: u8,
+    pub breaks: u8,
+    pub uses: u8,
+    pub myanmar: u8,
     pub category: u8,
     pub word: u8,
     pub semoji: u8,
@@ -94,8 +94,8 @@ pub struct Row {
 // The cells of one part.
 pub struct PartRow {
     pub scalar: u32,
-    pub brk: u8,
-    pub uclass: u8,
+    pub breaks: u8,
+    pub uses: u8,
     pub category: u8,
 }
 

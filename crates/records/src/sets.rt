@@ -30,8 +30,8 @@ pub fn part_row<'s, 'a>(
 {
     PartRow {
         scalar: wide(wides, 1, i),
-        brk: byte(bytes, 12, i),
-        uclass: byte(bytes, 13, i),
+        breaks: byte(bytes, 12, i),
+        uses: byte(bytes, 13, i),
         category: byte(bytes, 14, i),
     }
 }
@@ -46,9 +46,9 @@ pub fn row<'s, 'a>(
 {
     Row {
         scalar: wide(wides, 0, i),
-        brk: byte(bytes, 0, i),
-        uclass: byte(bytes, 1, i),
-        mclass: byte(bytes, 2, i),
+        breaks: byte(bytes, 0, i),
+        uses: byte(bytes, 1, i),
+        myanmar: byte(bytes, 2, i),
         category: byte(bytes, 3, i),
         word: byte(bytes, 4, i),
         semoji: byte(bytes, 5, i),

@@ -60,7 +60,7 @@ module _ (parser : Parser) (t : Text) (s : Sound parser t) where
   pub even : (p : Parser) → EvenBy p t
   even p = record {
     kind = kinds-long p;
-    brk = long 1 (omega arith);
+    break = long 1 (omega arith);
     category = long 4 (omega arith);
     emoji = emojis-long p;
     selector = long 10 (omega arith);
@@ -73,10 +73,10 @@ module _ (parser : Parser) (t : Text) (s : Sound parser t) where
   marks-long = long 11 (omega arith)
 
   kind-fits : (p : Parser) (i : ℕ) → i < length (t .records .scalars) → cell (kindsOf p t) i < 64
-  kind-fits Simple i h = omega (arith, s .rows i h .brk)
-  kind-fits Myanmar i h = omega (arith, s .rows i h .mclass)
-  kind-fits Complex i h = omega (arith, s .rows i h .uclass)
-  kind-fits Khmer i h = omega (arith, s .rows i h .uclass)
+  kind-fits Simple i h = omega (arith, s .rows i h .breaks)
+  kind-fits Myanmar i h = omega (arith, s .rows i h .myanmar)
+  kind-fits Complex i h = omega (arith, s .rows i h .uses)
+  kind-fits Khmer i h = omega (arith, s .rows i h .uses)
 
   emoji-fits : (p : Parser) (i : ℕ) → i < length (t .records .scalars) → cell (emojisOf p t) i < 2
   emoji-fits Simple i h = s .rows i h .semoji
@@ -100,14 +100,14 @@ module _ (parser : Parser) (t : Text) (s : Sound parser t) where
   regular-simple i h =
       let l = inside Simple i h in
       let w = seen-says Simple i l in
-      rw (w .its-kind, w .its-break, lt-ltb (cell (t .records .breaks) i) 14 (s .rows i l .brk), eq-eqb (cell (t .records .breaks) i) (cell (t .records .breaks) i) refl)
+      rw (w .its-kind, w .its-break, lt-ltb (cell (t .records .breaks) i) 14 (s .rows i l .breaks), eq-eqb (cell (t .records .breaks) i) (cell (t .records .breaks) i) refl)
 
   regular-myanmar : AllMyanmar (t .records .scalars) (t .records .myanmars) (t .records .memojis) → Regular Myanmar (seenBy Myanmar t)
   unfolding myanmarRegular
   regular-myanmar a i h =
       let l = inside Myanmar i h in
       let w = seen-says Myanmar i l in
-      rw (w .its-kind, w .its-scalar, w .its-emoji, lt-ltb (cell (t .records .myanmars) i) 26 (s .rows i l .mclass)) (a i l)
+      rw (w .its-kind, w .its-scalar, w .its-emoji, lt-ltb (cell (t .records .myanmars) i) 26 (s .rows i l .myanmar)) (a i l)
 
   module _ (khmer : Bool) (a : AllUse khmer (t .records .scalars) (t .records .uses) (t .records .cemojis) (t .records .decomposes)) where
     use-seen : (i : ℕ) → i < length (seenBy Complex t) → useRegular khmer (tokenAt (seenBy Complex t) i) ≡ true
@@ -115,7 +115,7 @@ module _ (parser : Parser) (t : Text) (s : Sound parser t) where
     use-seen i h =
         let l = inside Complex i h in
         let w = seen-says Complex i l in
-        rw (w .its-kind, w .its-scalar, w .its-emoji, lt-ltb (cell (t .records .uses) i) 37 (s .rows i l .uclass)) (a i l .regular)
+        rw (w .its-kind, w .its-scalar, w .its-emoji, lt-ltb (cell (t .records .uses) i) 37 (s .rows i l .uses)) (a i l .regular)
 
   regular-use : (khmer : Bool) → AllUse khmer (t .records .scalars) (t .records .uses) (t .records .cemojis) (t .records .decomposes) → Regular (useParser khmer) (seenBy (useParser khmer) t)
   regular-use true a = use-seen true a

@@ -186,13 +186,8 @@ fn by_myanmar<'s, 'a>(
             let row = g.row;
             let t = token_at(scalars, kinds, breaks, categories, emojis, selectors, i);
             let x = token::scalar(t);
-            let v = cell(
-                true,
-                &table,
-                x,
-                myanmar_index(mode, scalars, t, i, row),
-                row,
-            );
+            let index = myanmar_index(mode, scalars, t, i, row);
+            let v = cell(true, &table, x, index, row);
             if gives_up(v, row) {
                 return g.stand();
             }

@@ -5,7 +5,7 @@ ghost use Prim.Native.Nat.{_-_, _<_, _≤_};
 ghost use lib.Dec.{eqb};
 ghost use lib.ListN.{length};
 ghost use Rattle.tables.specs.Symbols.{joinedAt, cellAt};
-ghost use Rattle.segment.specs.Going.{goesOn, givenUp, stopOf, backOf, refilled, turned, Writable, Wrote};
+ghost use Rattle.segment.specs.Going.{goesOn, givenUp, stopOf, backOf, refilled, overed, noted, turned, Writable, Wrote};
 
 // Where a run stands between two clusters.
 pub(crate) struct Stand {
@@ -136,6 +136,33 @@ impl Going {
         }
     }
 
+    // The cluster is over: the current token is looked at again, between two clusters.
+    fn over(self) -> Going
+        ensures { λ r. ⌜ r ≡ overed self ⌝ }
+    {
+        Going {
+            at: self.at,
+            row: 0,
+            clusters: self.clusters,
+            stop: self.stop,
+            characters: self.characters,
+        }
+    }
+
+    // The current token is noted.
+    fn note(self, v: u16) -> Going
+        requires { ⌜ self .at ≤ 65535 ⌝ }
+        ensures { λ r. ⌜ r ≡ noted self v ⌝ }
+    {
+        Going {
+            at: self.at + 1,
+            row: (v / 64) as usize,
+            clusters: self.clusters,
+            stop: self.stop,
+            characters: self.characters,
+        }
+    }
+
     // The current token, a character of scalar x, by its cell: the cluster is over, the token is noted, or it is written.
     pub(crate) fn turn(
         self,
@@ -149,33 +176,20 @@ impl Going {
         ensures { λ r. ⌜ (r ≡ turned self v) × Wrote self v x oscalars oclasses oclusters ⌝ }
     {
         let what = (v / 16 % 4) as usize;
-        let row = (v / 64) as usize;
-        let o = self.characters;
         if what == 3 {
-            return Going {
-                at: self.at,
-                row: 0,
-                clusters: self.clusters,
-                stop: self.stop,
-                characters: o,
-            };
+            return self.over();
         }
         if what == 2 {
-            return Going {
-                at: self.at + 1,
-                row,
-                clusters: self.clusters,
-                stop: self.stop,
-                characters: o,
-            };
+            return self.note(v);
         }
+        let o = self.characters;
         let clusters = self.clusters + what;
         oscalars[o] = x;
         oclasses[o] = (v % 16) as u8;
         oclusters[o] = number(clusters);
         Going {
             at: self.at + 1,
-            row,
+            row: (v / 64) as usize,
             clusters,
             stop: stop_of(what, o, self.stop),
             characters: o + 1,

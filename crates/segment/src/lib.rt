@@ -21,6 +21,7 @@ ghost use Rattle.parse.specs.State.{startPlace};
 ghost use Rattle.segment.specs.Calls.{nextOf};
 ghost use Rattle.segment.specs.Met.{whatCode, refusalIn};
 ghost use Rattle.segment.specs.Runs.{RanOf};
+ghost use Rattle.segment.specs.Standing.{RanLent};
 
 // A parser over a text: which one, in which mode, and where it stands.
 pub struct Segmenter {
@@ -160,7 +161,7 @@ pub fn run_in<'s, 'a>(
     oclasses: &mut [u8],
     oclusters: &mut [u16],
 ) -> RunAnswer
-    ensures { λ r. ⌜ RanOf parser mode (lent (wides .entry) (bytes .entry) (firsts .entry)) (now (oscalars .entry)) (now (oclasses .entry)) (now (oclusters .entry)) r (now (oscalars .exit)) (now (oclasses .exit)) (now (oclusters .exit)) ⌝ }
+    ensures { λ r. ⌜ RanLent parser mode (lent (wides .entry) (bytes .entry) (firsts .entry)) oscalars oclasses oclusters r ⌝ }
 {
     let verdict = check_in(parser, wides, bytes, firsts);
     let Verdict::Refused(refusal) = verdict else {

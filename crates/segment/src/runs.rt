@@ -26,7 +26,21 @@ ghost use Rattle.records.specs.Sound.{Sound};
 ghost use Rattle.records.specs.declared.Verdict.the-variants.{Accepted, Refused};
 ghost use Rattle.stream.specs.Stream.{streamOf, mostTokens};
 ghost use Rattle.segment.specs.Inner.{Fits};
-ghost use Rattle.segment.specs.Standing.{Written, Known, RoomyIn, Begun, Stands, Finished, Rests, FinishedIn, RanIn};
+ghost use Rattle.segment.specs.Standing.{Written, Known, Ample, Begun, Stands, Finished, Rests, FinishedIn, RanWhole, RanIn};
+
+// What a run works on: its parser and mode, whether the records are the tokens and regular, and how many tokens there are.
+pub(crate) struct Task {
+    pub parser: Parser,
+    pub mode: Mode,
+    pub direct: bool,
+    pub tokens: usize,
+}
+
+// What is left of it, from a stand on.
+pub(crate) struct Rest {
+    pub task: Task,
+    pub from: Stand,
+}
 
 impl RunAnswer {
     // The answer of a run that refuses: nothing is written.
@@ -114,11 +128,9 @@ fn finish(
     }
 }
 
-// What is left from a stand on, over the tokens that `out` has room for.
+// What is left of a run, over the tokens that `out` has room for.
 fn run_within<'s, 'a>(
-    parser: Parser,
-    mode: Mode,
-    from: Stand,
+    rest: Rest,
     wides: &'s [&'a [u32]; 2],
     bytes: &'s [&'a [u8]; 15],
     firsts: &'a [u16],
@@ -127,9 +139,13 @@ fn run_within<'s, 'a>(
     oclasses: &mut [u8],
     oclusters: &mut [u16],
 ) -> RunAnswer
-    requires { ⌜ Rests parser mode (lent wides bytes firsts) (length (now out)) oscalars oclasses oclusters from ⌝ }
-    ensures { λ r. ⌜ FinishedIn parser mode (lent (wides .entry) (bytes .entry) (firsts .entry)) from oscalars oclasses oclusters r ⌝ }
+    requires { ⌜ Rests rest (lent wides bytes firsts) (length (now out)) oscalars oclasses oclusters ⌝ }
+    ensures { λ r. ⌜ FinishedIn rest (lent (wides .entry) (bytes .entry) (firsts .entry)) oscalars oclasses oclusters r ⌝ }
 {
+    let task = rest.task;
+    let parser = task.parser;
+    let mode = task.mode;
+    let from = rest.from;
     let n = tokens_of(parser, mode, wides, bytes, firsts, out);
     let text = &out[..n];
     let s = tabled(parser, mode, text, from, oscalars, oclasses, oclusters);
@@ -138,9 +154,7 @@ fn run_within<'s, 'a>(
 
 // The same in an array for the longest text, and in one for a paragraph.
 fn run_long<'s, 'a>(
-    parser: Parser,
-    mode: Mode,
-    from: Stand,
+    rest: Rest,
     wides: &'s [&'a [u32]; 2],
     bytes: &'s [&'a [u8]; 15],
     firsts: &'a [u16],
@@ -148,14 +162,12 @@ fn run_long<'s, 'a>(
     oclasses: &mut [u8],
     oclusters: &mut [u16],
 ) -> RunAnswer
-    requires { ⌜ Rests parser mode (lent wides bytes firsts) mostTokens oscalars oclasses oclusters from ⌝ }
-    ensures { λ r. ⌜ FinishedIn parser mode (lent (wides .entry) (bytes .entry) (firsts .entry)) from oscalars oclasses oclusters r ⌝ }
+    requires { ⌜ Rests rest (lent wides bytes firsts) mostTokens oscalars oclasses oclusters ⌝ }
+    ensures { λ r. ⌜ FinishedIn rest (lent (wides .entry) (bytes .entry) (firsts .entry)) oscalars oclasses oclusters r ⌝ }
 {
     let mut long = [0u64; MOST_TOKENS];
     run_within(
-        parser,
-        mode,
-        from,
+        rest,
         wides,
         bytes,
         firsts,
@@ -167,9 +179,7 @@ fn run_long<'s, 'a>(
 }
 
 fn run_middle<'s, 'a>(
-    parser: Parser,
-    mode: Mode,
-    from: Stand,
+    rest: Rest,
     wides: &'s [&'a [u32]; 2],
     bytes: &'s [&'a [u8]; 15],
     firsts: &'a [u16],
@@ -177,14 +187,12 @@ fn run_middle<'s, 'a>(
     oclasses: &mut [u8],
     oclusters: &mut [u16],
 ) -> RunAnswer
-    requires { ⌜ Rests parser mode (lent wides bytes firsts) 2048 oscalars oclasses oclusters from ⌝ }
-    ensures { λ r. ⌜ FinishedIn parser mode (lent (wides .entry) (bytes .entry) (firsts .entry)) from oscalars oclasses oclusters r ⌝ }
+    requires { ⌜ Rests rest (lent wides bytes firsts) 2048 oscalars oclasses oclusters ⌝ }
+    ensures { λ r. ⌜ FinishedIn rest (lent (wides .entry) (bytes .entry) (firsts .entry)) oscalars oclasses oclusters r ⌝ }
 {
     let mut middle = [0u64; MIDDLE];
     run_within(
-        parser,
-        mode,
-        from,
+        rest,
         wides,
         bytes,
         firsts,
@@ -195,14 +203,11 @@ fn run_middle<'s, 'a>(
     )
 }
 
-// The same in an array of so many cells, or in a larger one where these are too few for n tokens. It calls itself for the larger one, so
+// The same in an array of so many cells, or in a larger one where these are too few for the tokens. It calls itself for the larger one, so
 // that the large arrays have frames of their own (see `Segmenter::next_array`).
 fn run_array<'s, 'a>(
-    parser: Parser,
-    mode: Mode,
     cells: usize,
-    n: usize,
-    from: Stand,
+    rest: Rest,
     wides: &'s [&'a [u32]; 2],
     bytes: &'s [&'a [u8]; 15],
     firsts: &'a [u16],
@@ -210,55 +215,22 @@ fn run_array<'s, 'a>(
     oclasses: &mut [u8],
     oclusters: &mut [u16],
 ) -> RunAnswer
-    requires { ⌜ (n ≤ mostTokens) × Rests parser mode (lent wides bytes firsts) n oscalars oclasses oclusters from ⌝ }
-    ensures { λ r. ⌜ FinishedIn parser mode (lent (wides .entry) (bytes .entry) (firsts .entry)) from oscalars oclasses oclusters r ⌝ }
+    requires { ⌜ (rest .task .tokens ≤ mostTokens) × Rests rest (lent wides bytes firsts) (rest .task .tokens) oscalars oclasses oclusters ⌝ }
+    ensures { λ r. ⌜ FinishedIn rest (lent (wides .entry) (bytes .entry) (firsts .entry)) oscalars oclasses oclusters r ⌝ }
 {
+    let n = rest.task.tokens;
     if cells < n {
-        return run_array(
-            parser,
-            mode,
-            n,
-            n,
-            from,
-            wides,
-            bytes,
-            firsts,
-            oscalars,
-            oclasses,
-            oclusters,
-        );
+        return run_array(n, rest, wides, bytes, firsts, oscalars, oclasses, oclusters);
     }
     if MIDDLE < cells {
-        return run_long(
-            parser,
-            mode,
-            from,
-            wides,
-            bytes,
-            firsts,
-            oscalars,
-            oclasses,
-            oclusters,
-        );
+        return run_long(rest, wides, bytes, firsts, oscalars, oclasses, oclusters);
     }
     if SHORT < cells {
-        return run_middle(
-            parser,
-            mode,
-            from,
-            wides,
-            bytes,
-            firsts,
-            oscalars,
-            oclasses,
-            oclusters,
-        );
+        return run_middle(rest, wides, bytes, firsts, oscalars, oclasses, oclusters);
     }
     let mut short = [0u64; SHORT];
     run_within(
-        parser,
-        mode,
-        from,
+        rest,
         wides,
         bytes,
         firsts,
@@ -271,17 +243,17 @@ fn run_array<'s, 'a>(
 
 // How many tokens an accepted text has: as many as records where the records are the tokens.
 fn token_count<'s, 'a>(
-    records: bool,
+    direct: bool,
     parser: Parser,
     mode: Mode,
     wides: &'s [&'a [u32]; 2],
     bytes: &'s [&'a [u8]; 15],
     firsts: &'a [u16],
 ) -> usize
-    requires { ⌜ Known records parser mode (lent wides bytes firsts) ⌝ }
+    requires { ⌜ Known direct parser mode (lent wides bytes firsts) ⌝ }
     ensures { λ r. ⌜ r ≡ length (streamOf mode parser (lent (wides .entry) (bytes .entry) (firsts .entry))) ⌝ }
 {
-    if records {
+    if direct {
         return record_count(wides, bytes, firsts);
     }
     count_of(parser, wides, bytes, firsts)
@@ -289,9 +261,7 @@ fn token_count<'s, 'a>(
 
 // The clusters that the table makes of the columns themselves, where it can.
 fn begin<'s, 'a>(
-    records: bool,
-    parser: Parser,
-    mode: Mode,
+    task: Task,
     wides: &'s [&'a [u32]; 2],
     bytes: &'s [&'a [u8]; 15],
     firsts: &'a [u16],
@@ -299,10 +269,12 @@ fn begin<'s, 'a>(
     oclasses: &mut [u8],
     oclusters: &mut [u16],
 ) -> Stand
-    requires { ⌜ Known records parser mode (lent wides bytes firsts) × RoomyIn parser mode (lent wides bytes firsts) oscalars oclasses oclusters ⌝ }
-    ensures { λ r. ⌜ Begun parser mode (lent (wides .entry) (bytes .entry) (firsts .entry)) oscalars oclasses oclusters r ⌝ }
+    requires { ⌜ Ample task (lent wides bytes firsts) oscalars oclasses oclusters ⌝ }
+    ensures { λ r. ⌜ Begun task (lent (wides .entry) (bytes .entry) (firsts .entry)) oscalars oclasses oclusters r ⌝ }
 {
-    if records {
+    if task.direct {
+        let parser = task.parser;
+        let mode = task.mode;
         return direct(
             parser,
             mode,
@@ -315,6 +287,36 @@ fn begin<'s, 'a>(
         );
     }
     Stand::START
+}
+
+// A run over an accepted text whose columns have room.
+fn run_roomy<'s, 'a>(
+    task: Task,
+    wides: &'s [&'a [u32]; 2],
+    bytes: &'s [&'a [u8]; 15],
+    firsts: &'a [u16],
+    oscalars: &mut [u32],
+    oclasses: &mut [u8],
+    oclusters: &mut [u16],
+) -> RunAnswer
+    requires { ⌜ Ample task (lent wides bytes firsts) oscalars oclasses oclusters ⌝ }
+    ensures { λ r. ⌜ RanWhole task (lent (wides .entry) (bytes .entry) (firsts .entry)) oscalars oclasses oclusters r ⌝ }
+{
+    let from = begin(task, wides, bytes, firsts, oscalars, oclasses, oclusters);
+    if from.at < task.tokens {
+        let rest = Rest { task, from };
+        return run_array(
+            SHORT,
+            rest,
+            wides,
+            bytes,
+            firsts,
+            oscalars,
+            oclasses,
+            oclusters,
+        );
+    }
+    RunAnswer::accepted(from)
 }
 
 // A run over an accepted text.
@@ -331,41 +333,21 @@ pub(crate) fn run_accepted<'s, 'a>(
     requires { ⌜ Sound parser (lent wides bytes firsts) ⌝ }
     ensures { λ r. ⌜ RanIn parser mode (lent (wides .entry) (bytes .entry) (firsts .entry)) oscalars oclasses oclusters r ⌝ }
 {
-    let records = is_direct(parser, mode, wides, bytes, firsts);
-    let n = token_count(records, parser, mode, wides, bytes, firsts);
+    let direct = is_direct(parser, mode, wides, bytes, firsts);
+    let tokens = token_count(direct, parser, mode, wides, bytes, firsts);
     let room = shorter(oscalars.len(), shorter(oclasses.len(), oclusters.len()));
-    if room < 2 * n {
+    if room < 2 * tokens {
         return RunAnswer::refused(Refusal {
             number: 9,
             side: Side::Neither,
             index: 0,
         });
     }
-    let s = begin(
-        records,
+    let task = Task {
         parser,
         mode,
-        wides,
-        bytes,
-        firsts,
-        oscalars,
-        oclasses,
-        oclusters,
-    );
-    if s.at < n {
-        return run_array(
-            parser,
-            mode,
-            SHORT,
-            n,
-            s,
-            wides,
-            bytes,
-            firsts,
-            oscalars,
-            oclasses,
-            oclusters,
-        );
-    }
-    RunAnswer::accepted(s)
+        direct,
+        tokens,
+    };
+    run_roomy(task, wides, bytes, firsts, oscalars, oclasses, oclusters)
 }

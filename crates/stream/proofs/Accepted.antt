@@ -84,19 +84,19 @@ module _ (parser : Parser) (t : Text) (s : Sound parser t) (i : ℕ) (h : i < le
   pub own-says : (kinds emojis : List ℕ) (emoji : ℕ) → cell kinds i < 64 → emoji < 2 →
       Says (ownToken (sourceOf (t .records) kinds emojis) emoji i) (cell (t .records .scalars) i) (cell kinds i) (cell (t .records .breaks) i) (cell (t .records .categories) i) emoji (cell (t .records .selectors) i) i
   own-says kinds emojis emoji hk he =
-      packed-says _ _ _ _ _ _ _ (small _ (s .rows i h .scalar)) hk (omega (arith, s .rows i h .brk)) (omega (arith, s .rows i h .category)) he (s .rows i h .selector) (omega (arith, few parser t s))
+      packed-says _ _ _ _ _ _ _ (small _ (s .rows i h .scalar)) hk (omega (arith, s .rows i h .breaks)) (omega (arith, s .rows i h .category)) he (s .rows i h .selector) (omega (arith, few parser t s))
 
   pub simple-says : Says (ownToken (sourceOf (t .records) (t .records .breaks) (t .records .semojis)) (cell (t .records .semojis) i) i) (cell (t .records .scalars) i) (cell (t .records .breaks) i) (cell (t .records .breaks) i) (cell (t .records .categories) i) (cell (t .records .semojis) i) (cell (t .records .selectors) i) i
-  simple-says = own-says (t .records .breaks) (t .records .semojis) (cell (t .records .semojis) i) (omega (arith, s .rows i h .brk)) (s .rows i h .semoji)
+  simple-says = own-says (t .records .breaks) (t .records .semojis) (cell (t .records .semojis) i) (omega (arith, s .rows i h .breaks)) (s .rows i h .semoji)
 
   pub myanmar-says : Says (ownToken (sourceOf (t .records) (t .records .myanmars) (t .records .memojis)) (cell (t .records .memojis) i) i) (cell (t .records .scalars) i) (cell (t .records .myanmars) i) (cell (t .records .breaks) i) (cell (t .records .categories) i) (cell (t .records .memojis) i) (cell (t .records .selectors) i) i
-  myanmar-says = own-says (t .records .myanmars) (t .records .memojis) (cell (t .records .memojis) i) (omega (arith, s .rows i h .mclass)) (s .rows i h .memoji)
+  myanmar-says = own-says (t .records .myanmars) (t .records .memojis) (cell (t .records .memojis) i) (omega (arith, s .rows i h .myanmar)) (s .rows i h .memoji)
 
   -- a split sign is a token "without its emoji mark": emoji is then 0, else the complex parser's mark
   pub complex-says : (emoji : ℕ) → emoji < 2 → Says (ownToken (sourceOf (t .records) (t .records .uses) (t .records .cemojis)) emoji i) (cell (t .records .scalars) i) (cell (t .records .uses) i) (cell (t .records .breaks) i) (cell (t .records .categories) i) emoji (cell (t .records .selectors) i) i
-  complex-says emoji he = own-says (t .records .uses) (t .records .cemojis) emoji (omega (arith, s .rows i h .uclass)) he
+  complex-says emoji he = own-says (t .records .uses) (t .records .cemojis) emoji (omega (arith, s .rows i h .uses)) he
 
   -- a part's token says what the part's cells say, and whose part it is
   pub part-says : (j : ℕ) → j < length (t .parts .pscalars) → Says (partToken (t .parts) j i) (cell (t .parts .pscalars) j) (cell (t .parts .puses) j) (cell (t .parts .pbreaks) j) (cell (t .parts .pcategories) j) 0 0 i
   part-says j l =
-      packed-says _ _ _ _ _ _ _ (small _ (s .parts j l .scalar)) (omega (arith, s .parts j l .uclass)) (omega (arith, s .parts j l .brk)) (omega (arith, s .parts j l .category)) (omega arith) (omega arith) (omega (arith, few parser t s))
+      packed-says _ _ _ _ _ _ _ (small _ (s .parts j l .scalar)) (omega (arith, s .parts j l .uses)) (omega (arith, s .parts j l .breaks)) (omega (arith, s .parts j l .category)) (omega arith) (omega arith) (omega (arith, few parser t s))

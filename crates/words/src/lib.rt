@@ -118,7 +118,8 @@ fn write_answers(words: &[u8], pictographs: &[u8], out: &mut [u8])
 
 // The answers to a whole text, one cell a record.
 pub fn run(words: &[u8], pictographs: &[u8], out: &mut [u8]) -> Verdict
-    ensures { λ r. ⌜ (r ≡ runVerdict (now (words .entry)) (now (pictographs .entry)) (length (now (out .entry)))) × (now (out .exit) ≡ runCells (now (words .entry)) (now (pictographs .entry)) (now (out .entry))) ⌝ }
+    ensures { λ r. ⌜ r ≡ runVerdict (now (words .entry)) (now (pictographs .entry)) (length (now (out .entry))) ⌝ }
+    ensures { λ _. ⌜ now (out .exit) ≡ runCells (now (words .entry)) (now (pictographs .entry)) (now (out .entry)) ⌝ }
 {
     let checked = check_words(words, pictographs);
     let Verdict::Accepted = checked else {

@@ -15,7 +15,7 @@ use Rattle.segment.proofs.runs.+run_array.{statement}
 use Rattle.segment.proofs.runs.+run_array.Tie.{close}
 
 abbrev μ-run-array : Measures 5 run-array-kinds.ps ℕ
-μ-run-array κs a = a .1 .1 .1 .0 - a .1 .1 .0
+μ-run-array κs a = a .1 .0 .task .tokens - a .0
 
 abbrev run-array-at : ℕ → In 5 run-array-kinds.ps
 run-array-at t = and 5 run-array-kinds.ps (is 5 run-array-kinds.ps μ-run-array t) run-array.Pre
@@ -34,7 +34,7 @@ run-array-run-array-requires : (t : ℕ) → run-array-lts.Need-run-array-requir
   run-within-reads.Asked,
   run-within-reads.Learnt,
 ) (run-array-at t) run-array.Post
-run-array-run-array-requires t c κs = (rw (← c .before .before .before .before .before .before .before .before .pre .0) (omega (arith, c .before .before .before .if1 .taken)), (c .before .before .before .before .before .before .before .before .pre .1 .0, record { fits = c .before .before .before .before .before .before .before .before .pre .1 .1 .fits; stands = c .before .before .before .before .before .before .before .before .pre .1 .1 .stands }))
+run-array-run-array-requires t c κs = (rw (← c .before .before .before .before .before .before .before .before .pre .0) (omega (arith, c .before .before .before .if1 .taken)), ((c .before .before .before .before .before .before .before .before .pre .1 .0), record { fits = c .before .before .before .before .before .before .before .before .pre .1 .1 .fits; stands = c .before .before .before .before .before .before .before .before .pre .1 .1 .stands }))
 
 run-array-same-length : (t : ℕ) → run-array-lts.Need-same-length (
   run-array-below t,

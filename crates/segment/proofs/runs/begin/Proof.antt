@@ -6,7 +6,7 @@ use Rattle.segment.proofs.runs.begin.Statement.{statement}
 use Rattle.segment.proofs.runs.begin.Tie as tie
 
 direct-requires : tie.Need-direct-requires
-direct-requires c κs = ready-direct _ _ (textIn (c .before .before .before .before .before .before .before .before .args .wides .now) (c .before .before .before .before .before .before .before .before .args .bytes .now) (c .before .before .before .before .before .before .before .before .args .firsts .now)) _ _ _ (c .before .before .before .before .before .before .before .before .pre .0 .direct (c .before .before .before .if1 .taken)) (c .before .before .before .before .before .before .before .before .pre .0 .sound) (c .before .before .before .before .before .before .before .before .pre .1)
+direct-requires c κs = ready-direct _ _ (textIn (c .before .before .before .before .before .before .before .before .args .wides .now) (c .before .before .before .before .before .before .before .before .args .bytes .now) (c .before .before .before .before .before .before .before .before .args .firsts .now)) _ _ _ (c .before .before .before .before .before .before .before .before .pre .known .direct (c .before .before .before .if1 .taken)) (c .before .before .before .before .before .before .before .before .pre .known .sound) (c .before .before .before .before .before .before .before .before .pre .roomy)
 
 same-length : tie.Need-same-length
 same-length c = search needs
@@ -18,7 +18,7 @@ same-length-3 : tie.Need-same-length-3
 same-length-3 c = search needs
 
 returns : tie.Need-returns
-returns c = begun-direct _ _ _ _ _ _ _ _ (textIn (c .before .before .before .before .before .before .before .before .before .before .before .before .before .before .before .args .wides .now) (c .before .before .before .before .before .before .before .before .before .before .before .before .before .before .before .args .bytes .now) (c .before .before .before .before .before .before .before .before .before .before .before .before .before .before .before .args .firsts .now)) (c .before .before .before .before .before .before .before .before .before .before .before .before .before .before .before .pre .0 .direct (c .before .before .before .before .before .before .before .before .before .before .if1 .taken)) _ (c .before .before .before .before .before .before .direct .ensures)
+returns c = begun-direct _ _ _ _ _ _ _ _ (textIn (c .before .before .before .before .before .before .before .before .before .before .before .before .before .before .before .args .wides .now) (c .before .before .before .before .before .before .before .before .before .before .before .before .before .before .before .args .bytes .now) (c .before .before .before .before .before .before .before .before .before .before .before .before .before .before .before .args .firsts .now)) (c .before .before .before .before .before .before .before .before .before .before .before .before .before .before .before .pre .known .direct (c .before .before .before .before .before .before .before .before .before .before .if1 .taken)) _ (c .before .before .before .before .before .before .direct .ensures)
 
 returns-2 : tie.Need-returns-2
 returns-2 c = run-starts _ _ _ _ _ _

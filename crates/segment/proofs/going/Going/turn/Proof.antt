@@ -7,17 +7,17 @@ use Rattle.segment.proofs.going.Going.turn.Tie as tie
 cast-what : tie.Need-cast-what
 cast-what c = search needs
 
-cast-row : tie.Need-cast-row
-cast-row c = search needs
+over-requires : tie.Need-over-requires
+over-requires c κs = search needs
 
 returns : tie.Need-returns
-returns c = (unfold turned in simp (eq-eqb _ _ (c .if1 .taken)), record { scalar = unfold putBy in simp (eq-eqb _ _ (c .if1 .taken)); class = unfold putBy in simp (eq-eqb _ _ (c .if1 .taken)); cluster = unfold putBy in simp (eq-eqb _ _ (c .if1 .taken)) })
+returns c = (unfold turned in simp (eq-eqb _ _ (c .before .if1 .taken), c .over .ensures), record { scalar = unfold putBy in simp (eq-eqb _ _ (c .before .if1 .taken)); class = unfold putBy in simp (eq-eqb _ _ (c .before .if1 .taken)); cluster = unfold putBy in simp (eq-eqb _ _ (c .before .if1 .taken)) })
 
-add-t14 : tie.Need-add-t14
-add-t14 c = search needs
+note-requires : tie.Need-note-requires
+note-requires c κs = search needs
 
 returns-2 : tie.Need-returns-2
-returns-2 c = (unfold turned in simp (ne-eqb _ _ (c .before .before .if1 .left), eq-eqb _ _ (c .before .if2 .taken)), record { scalar = unfold putBy in simp (ne-eqb _ _ (c .before .before .if1 .left), eq-eqb _ _ (c .before .if2 .taken)); class = unfold putBy in simp (ne-eqb _ _ (c .before .before .if1 .left), eq-eqb _ _ (c .before .if2 .taken)); cluster = unfold putBy in simp (ne-eqb _ _ (c .before .before .if1 .left), eq-eqb _ _ (c .before .if2 .taken)) })
+returns-2 c = (unfold turned in simp (ne-eqb _ _ (c .before .before .if1 .left), eq-eqb _ _ (c .before .if2 .taken), c .note .ensures), record { scalar = unfold putBy in simp (ne-eqb _ _ (c .before .before .if1 .left), eq-eqb _ _ (c .before .if2 .taken)); class = unfold putBy in simp (ne-eqb _ _ (c .before .before .if1 .left), eq-eqb _ _ (c .before .if2 .taken)); cluster = unfold putBy in simp (ne-eqb _ _ (c .before .before .if1 .left), eq-eqb _ _ (c .before .if2 .taken)) })
 
 add-clusters : tie.Need-add-clusters
 add-clusters c = search needs
@@ -43,14 +43,17 @@ mul-oclusters c = search needs
 slice-write-oclusters : tie.Need-slice-write-oclusters
 slice-write-oclusters c = search needs
 
-add-t15 : tie.Need-add-t15
-add-t15 c = search needs
+add-t13 : tie.Need-add-t13
+add-t13 c = search needs
+
+cast-t18 : tie.Need-cast-t18
+cast-t18 c = search needs
 
 stop-of-requires : tie.Need-stop-of-requires
 stop-of-requires c κs = search needs
 
-add-t21 : tie.Need-add-t21
-add-t21 c = search needs
+add-t20 : tie.Need-add-t20
+add-t20 c = search needs
 
 same-length : tie.Need-same-length
 same-length c = search needs
@@ -69,9 +72,9 @@ turn-spec =
     tie.close
     (tie.spec
     cast-what
-    cast-row
+    over-requires
     returns
-    add-t14
+    note-requires
     returns-2
     add-clusters
     mul-oscalars
@@ -81,9 +84,10 @@ turn-spec =
     number-requires
     mul-oclusters
     slice-write-oclusters
-    add-t15
+    add-t13
+    cast-t18
     stop-of-requires
-    add-t21
+    add-t20
     same-length
     same-length-2
     same-length-3
