@@ -16,7 +16,7 @@ use Rattle.records.proofs.Tables.{firstOf, by-table}
 use Rattle.records.proofs.Judged.{alone, over-same}
 use Rattle.words.specs.declared.Next.{Next}
 use Rattle.lines.specs.LineBreak as LineBreak
-use Rattle.lines.specs.Refusals.{badTable, badState, stepVerdict, stepUnder, stepOf}
+use Rattle.lines.specs.Refusals.{badTable, badState, judged, stepVerdict, stepUnder, stepOf}
 use Rattle.lines.specs.NextStep.{badRecord, badStates, nextVerdict, nextRuled, nextUnder, nextOf}
 use Rattle.lines.specs.Run.{judgeRecord, checkVerdict, runVerdict}
 use Rattle.lines.specs.Offences.{stepTable, lineTable, nextTable, runTable}
@@ -27,8 +27,8 @@ use Rattle.lines.specs.declared.BoundaryState.{BoundaryState}
 -- # The two steps
 
 -- their three lines one after the other
-three : (table : List ℕ) (four eight : Bool) → refuse (badTable table) 10 Neither 0 ⊳ refuse four 4 Record 0 ⊳ refuse eight 8 Neither 0 ≡ firstOf (stepTable table (line 4 four) (line 8 eight))
-unfolding over
+three : (table : List ℕ) (four eight : Bool) → judged table four eight ≡ firstOf (stepTable table (line 4 four) (line 8 eight))
+unfolding judged over
 three table four eight = go (badTable table) four eight
   where
     go : (a b c : Bool) → refuse a 10 Neither 0 ⊳ refuse b 4 Record 0 ⊳ refuse c 8 Neither 0 ≡ (refuse a 10 Neither 0 ⊳ Accepted) ⊳ Accepted ⊳ ((refuse b 4 Record 0 ⊳ Accepted) ⊳ Accepted) ⊳ refuse c 8 Neither 0 ⊳ Accepted
@@ -37,7 +37,7 @@ three table four eight = go (badTable table) four eight
     go false false true = refl
     go false false false = refl
 
-step-by-table : (table : List ℕ) (four eight : Bool) (v : Verdict) → v ≡ refuse (badTable table) 10 Neither 0 ⊳ refuse four 4 Record 0 ⊳ refuse eight 8 Neither 0 → ByTable (10 ∷ 4 ∷ 8 ∷ []) (stepTable table (line 4 four) (line 8 eight)) v
+step-by-table : (table : List ℕ) (four eight : Bool) (v : Verdict) → v ≡ judged table four eight → ByTable (10 ∷ 4 ∷ 8 ∷ []) (stepTable table (line 4 four) (line 8 eight)) v
 step-by-table table four eight v e =
     by-table _ (stepTable table (line 4 four) (line 8 eight)) (record { before = refl; parts = λ i. refl; records = λ i. refl; after = refl }) v (e ∙ three table four eight)
 

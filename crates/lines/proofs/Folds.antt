@@ -29,7 +29,7 @@ use Rattle.words.specs.declared.WordStep.{WordStep}
 use Rattle.words.proofs.Laws.{answer-bit, run-folds}
 use Rattle.lines.specs.LineBreak as LineBreak
 use Rattle.lines.specs.Rules.{boundaryCode, lineAnswer, lineAfter, orWord}
-use Rattle.lines.specs.Refusals.{rowsOf, badTable, badPrevious, badState, stepVerdict, stepOf}
+use Rattle.lines.specs.Refusals.{rowsOf, badTable, badPrevious, badState, judged, stepVerdict, stepOf}
 use Rattle.lines.specs.NextStep.{badRecord, nextVerdict, nextRuled, nextOf}
 use Rattle.lines.specs.Run.{stateAt, lineAt, boundaryAt, answerAt, judgeRecord, checkVerdict, runVerdict, runCells}
 use Rattle.lines.specs.declared.Strength.{Strength}
@@ -81,7 +81,7 @@ module _ (table lines words pictographs : List ℕ) (accepted : checkVerdict tab
   pub line-folds : (strength : Strength) (i : ℕ) → i < length lines
       → stepOf strength table (stateAt table lines i) (cell lines i)
       ≡ record { state = stateAt table lines (i + 1); answer = lineAt strength table lines i; verdict = Accepted }
-  unfolding stepVerdict lineAt
+  unfolding stepVerdict judged lineAt
   line-folds strength i h =
       let after : stateAt table lines (i + 1) ≡ lineAfter table (stateAt table lines i) (cell lines i) = unfold stateAt in ap (stateAt table lines) (add-one i) in
       rw (good-table, class-listed i h, state-good i (omega arith), after)
@@ -96,7 +96,7 @@ module _ (table lines words pictographs : List ℕ) (accepted : checkVerdict tab
   word-accepts i h = word-verdict _ _ _ _ _ (ap (λ (r : WordStep). r .verdict) (word-fold i h))
 
   next-accepts : (i : ℕ) → i < length lines → nextVerdict table (bothAt table lines words pictographs i) (cell lines i) (cell words i) (cell pictographs i) (Words.nextAt words (i + 1)) ≡ Accepted
-  unfolding nextVerdict Step.stepVerdict
+  unfolding nextVerdict judged Step.stepVerdict
   next-accepts i h =
       let p : _ = passes (refuse (Step.badRecord (cell words i) (cell pictographs i) (Words.nextAt words (i + 1))) 4 Record 0) (refuse (Step.badState (Words.stateAt words pictographs i)) 8 Neither 0) (word-accepts i h) in
       let record-fine : Step.badRecord (cell words i) (cell pictographs i) (Words.nextAt words (i + 1)) ≡ false = unrefused _ 4 Record 0 (p .0) in

@@ -18,7 +18,7 @@ use Rattle.words.specs.declared.WordState.{WordState}
 use Rattle.words.specs.declared.WordStep.{WordStep}
 use Rattle.lines.specs.LineBreak as LineBreak
 use Rattle.lines.specs.Rules.{lineAnswer, lineAfter, orWord}
-use Rattle.lines.specs.Refusals.{badTable, badState}
+use Rattle.lines.specs.Refusals.{badTable, badState, judged}
 use Rattle.lines.specs.NextStep.{badRecord, badStates, nextVerdict, nextRuled, nextOf}
 use Rattle.lines.specs.declared.Strength.{Strength}
 use Rattle.lines.specs.declared.Boundary.{Boundary}
@@ -52,7 +52,7 @@ module _ (a b c d t : Bool) (e : t ≡ (a || (b || (c || false)))) where
 -- what `next` accepts, both machines accept
 module _ (table : List ℕ) (s : BoundaryState) (line word pictograph : ℕ) (next : Next) (good : nextVerdict table s line word pictograph next ≡ Accepted) where
   parts : (badTable table ≡ false) × ((badRecord line word pictograph next ≡ false) × (badStates table s ≡ false))
-  unfolding nextVerdict
+  unfolding nextVerdict judged
   parts =
       let p : _ = passes (refuse (badTable table) 10 Neither 0) (refuse (badRecord line word pictograph next) 4 Record 0 ⊳ refuse (badStates table s) 8 Neither 0) good in
       let q : _ = passes (refuse (badRecord line word pictograph next) 4 Record 0) (refuse (badStates table s) 8 Neither 0) (p .1) in

@@ -35,9 +35,9 @@ module _ (table lines words pictographs : List ℕ) (v : Verdict) (e : v ≡ jud
   unfolding checkVerdict
   check-shape r h = rw (← e, h)
 
-  pub check-table : (t : Bool) → v ≡ Accepted → t ≡ badTable table → t ≡ true → Refused (refusal 10 Neither 0) ≡ checkVerdict table lines words pictographs
+  pub check-table : (t : Bool) (q : Verdict) → v ≡ Accepted → t ≡ badTable table → t ≡ true → q ≡ Refused (refusal 10 Neither 0) → q ≡ checkVerdict table lines words pictographs
   unfolding checkVerdict
-  check-table t h f g = rw (← e, h, ← f, g)
+  check-table t q h f g k = rw (← e, h, ← f, g) k
 
   pub check-records : (t : Bool) (q : Verdict) → v ≡ Accepted → t ≡ badTable table → t ≡ false → q ≡ over (λ i. judgeRecord (cell lines i) (cell words i) (cell pictographs i) i) 0 (length lines) → q ≡ checkVerdict table lines words pictographs
   unfolding checkVerdict
@@ -124,9 +124,9 @@ module _ (strength : Strength) (table lines words pictographs out : List ℕ) (v
   unfolding runVerdict
   ran-refused r h = rw (← e, h) (refl, refl)
 
-  pub ran-short : v ≡ Accepted → length out < length lines → Ran (Refused (refusal 9 Neither 0)) out
+  pub ran-short : (q : Verdict) → q ≡ Refused (refusal 9 Neither 0) → v ≡ Accepted → length out < length lines → Ran q out
   unfolding runVerdict
-  ran-short h short = rw (← e, h, lt-ltb _ _ short) (refl, refl)
+  ran-short q k h short = rw (← e, h, lt-ltb _ _ short) (k, refl)
 
   -- out₁ is what the word run left, cells′ what the line answers made of it
   pub ran-whole : (out₁ cells′ : List ℕ) → v ≡ Accepted → length lines ≤ length out → out₁ ≡ Words.runCells words pictographs out → cells′ ≡ cells (laidAt strength table lines out₁) (length lines) ++ drop (length lines) out₁ → Ran Accepted cells′

@@ -3,8 +3,7 @@ use Prim.Native.Nat.{ℕ}
 use mathlib.Core.Bool.{Bool, _||_}
 use mathlib.Core.List.{List, _∷_}
 use Rattle.classes.specs.WordBreak as WordBreak
-use Rattle.records.specs.Refusals.{refuse, _⊳_, coded, mark, outside}
-use Rattle.records.specs.declared.Side.the-variants.{Record, Neither}
+use Rattle.records.specs.Refusals.{coded, mark, outside}
 use Rattle.records.specs.declared.Verdict.{Verdict}
 use Rattle.records.specs.declared.Verdict.the-variants.{Accepted, Refused}
 use Rattle.words.specs.Rules.{ruled}
@@ -13,7 +12,7 @@ use Rattle.words.specs.declared.Next.{Next}
 use Rattle.lines.specs.LineBreak as LineBreak
 use Rattle.lines.specs.Rules as Rules
 use Rattle.lines.specs.Rules.{lineAnswer, lineAfter, orWord}
-use Rattle.lines.specs.Refusals.{badTable, badState}
+use Rattle.lines.specs.Refusals.{badState, judged}
 use Rattle.lines.specs.declared.Strength.{Strength}
 use Rattle.lines.specs.declared.Boundary.the-variants as Boundary
 use Rattle.lines.specs.declared.BoundaryState.{BoundaryState}
@@ -34,8 +33,7 @@ badStates table s = badState table (s .line) || Words.badState (s .word)
 
 -- 10, then 4, then 8
 unfoldable pub nextVerdict : List ℕ → BoundaryState → ℕ → ℕ → ℕ → Next → Verdict
-nextVerdict table s line word pictograph next =
-    refuse (badTable table) 10 Neither 0 ⊳ refuse (badRecord line word pictograph next) 4 Record 0 ⊳ refuse (badStates table s) 8 Neither 0
+nextVerdict table s line word pictograph next = judged table (badRecord line word pictograph next) (badStates table s)
 
 -- `next` itself: both machines take their step, whatever the other one answers
 unfoldable pub nextRuled : Strength → List ℕ → BoundaryState → ℕ → ℕ → ℕ → Next → BoundaryStep

@@ -9,9 +9,9 @@ mod runs;
 mod sweeps;
 
 use next::or_word;
-use records::Refusal;
 use records::Side;
 use records::Verdict;
+use records::refused;
 use runs::check;
 use runs::lay;
 use words::Next;
@@ -205,11 +205,7 @@ pub fn run(
         return checked;
     };
     if out.len() < lines.len() {
-        return Verdict::Refused(Refusal {
-            number: 9,
-            side: Side::Neither,
-            index: 0,
-        });
+        return refused(9, Side::Neither, 0);
     }
     words::run(words, pictographs, out);
     lay(table, strength, lines, out);

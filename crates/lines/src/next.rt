@@ -1,10 +1,8 @@
 // The step of `next`: its refusals, and the two answers as one.
 use crate::Boundary;
 use crate::BoundaryState;
-use crate::judge::is_bad_table;
+use crate::judge::judge_step;
 use crate::runs::is_bad_record;
-use records::Refusal;
-use records::Side;
 use records::Verdict;
 use words::Next;
 ghost use mathlib.Core.Path.{_≡_};
@@ -60,27 +58,10 @@ impl BoundaryState {
     ) -> Verdict
         ensures { λ r. ⌜ r ≡ nextVerdict (now (table .entry)) self line word pictograph next ⌝ }
     {
-        if is_bad_table(table) {
-            return Verdict::Refused(Refusal {
-                number: 10,
-                side: Side::Neither,
-                index: 0,
-            });
-        }
-        if is_bad_step(line, word, pictograph, next) {
-            return Verdict::Refused(Refusal {
-                number: 4,
-                side: Side::Record,
-                index: 0,
-            });
-        }
-        if self.is_bad(table) {
-            return Verdict::Refused(Refusal {
-                number: 8,
-                side: Side::Neither,
-                index: 0,
-            });
-        }
-        Verdict::Accepted
+        judge_step(
+            table,
+            is_bad_step(line, word, pictograph, next),
+            self.is_bad(table),
+        )
     }
 }

@@ -6,13 +6,13 @@ use crate::line_break;
 use crate::sweeps::any_from;
 use classes::word_break;
 use records::MOST;
-use records::Refusal;
 use records::Side;
 use records::Verdict;
 use records::cells::any_above;
 use records::cells::cell8;
 use records::cells::uneven;
 use records::is_outside;
+use records::refused;
 ghost use mathlib.Core.Path.{_≡_};
 ghost use mathlib.Core.List.{[], _∷_, _++_};
 ghost use Prim.Native.Nat.{_≤_};
@@ -31,18 +31,10 @@ fn judge_columns(lines: usize, words: usize, pictographs: usize) -> Verdict
 {
     let lengths = [lines, words, pictographs];
     if any_above(&lengths, MOST) {
-        return Verdict::Refused(Refusal {
-            number: 1,
-            side: Side::Neither,
-            index: 0,
-        });
+        return refused(1, Side::Neither, 0);
     }
     if uneven(&lengths) {
-        return Verdict::Refused(Refusal {
-            number: 2,
-            side: Side::Neither,
-            index: 0,
-        });
+        return refused(2, Side::Neither, 0);
     }
     Verdict::Accepted
 }
@@ -64,11 +56,7 @@ fn judge_record(line: u8, word: u8, pictograph: u8, i: usize) -> Verdict
     ensures { λ r. ⌜ r ≡ judgeRecord line word pictograph i ⌝ }
 {
     if is_bad_record(line, word, pictograph) {
-        return Verdict::Refused(Refusal {
-            number: 4,
-            side: Side::Record,
-            index: i,
-        });
+        return refused(4, Side::Record, i);
     }
     Verdict::Accepted
 }
@@ -114,11 +102,7 @@ pub(crate) fn check(table: &[u8], lines: &[u8], words: &[u8], pictographs: &[u8]
         return shape;
     };
     if is_bad_table(table) {
-        return Verdict::Refused(Refusal {
-            number: 10,
-            side: Side::Neither,
-            index: 0,
-        });
+        return refused(10, Side::Neither, 0);
     }
     if is_unlisted(lines, words, pictographs) {
         return judge_records(lines, words, pictographs);

@@ -18,6 +18,9 @@ returns c = check-shape _ _ _ _ _ (c .before .before .judge-columns .ensures) _ 
 is-bad-table-requires : tie.Need-is-bad-table-requires
 is-bad-table-requires c κs = search needs
 
+refused-requires : tie.Need-refused-requires
+refused-requires c κs = search needs
+
 returns-2 : tie.Need-returns-2
 returns-2 c = search check-table
 
@@ -42,6 +45,7 @@ check-spec =
     enum-told-2
     returns
     is-bad-table-requires
+    refused-requires
     returns-2
     is-unlisted-requires
     judge-records-requires
