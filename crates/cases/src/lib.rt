@@ -1,7 +1,7 @@
 // Reading of case lines. A line that is not of the layout says so.
 mod columns;
 mod items;
-mod lines;
+mod layout;
 mod numbers;
 mod spans;
 
@@ -10,8 +10,8 @@ pub use columns::column16;
 pub use columns::column32;
 pub use items::Kind;
 pub use items::count_items;
-pub use lines::Line;
-pub use lines::read;
+pub use layout::Line;
+pub use layout::read;
 pub use numbers::Base;
 pub use numbers::Number;
 pub use numbers::read_number;

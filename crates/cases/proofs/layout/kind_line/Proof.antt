@@ -1,8 +1,8 @@
 use Rattle.cases.proofs.Asks.{asks}
 use Rattle.cases.specs.Lines.{kindLine}
 use borrow.Author.Needs.{needs}
-use Rattle.cases.proofs.lines.kind_line.Statement.{statement}
-use Rattle.cases.proofs.lines.kind_line.Tie as tie
+use Rattle.cases.proofs.layout.kind_line.Statement.{statement}
+use Rattle.cases.proofs.layout.kind_line.Tie as tie
 
 count-requires : tie.Need-count-requires
 count-requires c κs = search needs

@@ -1,8 +1,8 @@
 use Rattle.cases.proofs.Asks.{asks}
 use Rattle.cases.specs.Lines.{moded}
 use borrow.Author.Needs.{needs}
-use Rattle.cases.proofs.lines.text_moded.Statement.{statement}
-use Rattle.cases.proofs.lines.text_moded.Tie as tie
+use Rattle.cases.proofs.layout.text_moded.Statement.{statement}
+use Rattle.cases.proofs.layout.text_moded.Tie as tie
 
 span-requires : tie.Need-span-requires
 span-requires c κs = search needs

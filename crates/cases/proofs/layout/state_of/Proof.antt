@@ -1,7 +1,7 @@
 use Rattle.cases.proofs.Asks.{state-read}
 use borrow.Author.Needs.{needs}
-use Rattle.cases.proofs.lines.state_of.Statement.{statement}
-use Rattle.cases.proofs.lines.state_of.Tie as tie
+use Rattle.cases.proofs.layout.state_of.Statement.{statement}
+use Rattle.cases.proofs.layout.state_of.Tie as tie
 
 field8-requires : tie.Need-field8-requires
 field8-requires c κs = search needs

@@ -1,8 +1,8 @@
 use Rattle.cases.proofs.Asks.{asks}
 use Rattle.cases.specs.Lines.{stepLine}
 use borrow.Author.Needs.{needs}
-use Rattle.cases.proofs.lines.step_line.Statement.{statement}
-use Rattle.cases.proofs.lines.step_line.Tie as tie
+use Rattle.cases.proofs.layout.step_line.Statement.{statement}
+use Rattle.cases.proofs.layout.step_line.Tie as tie
 
 span-requires : tie.Need-span-requires
 span-requires c κs = search needs

@@ -1,7 +1,7 @@
 use Rattle.cases.proofs.Asks.{text-asked, text-nobody}
 use borrow.Author.Needs.{needs}
-use Rattle.cases.proofs.lines.text_line.Statement.{statement}
-use Rattle.cases.proofs.lines.text_line.Tie as tie
+use Rattle.cases.proofs.layout.text_line.Statement.{statement}
+use Rattle.cases.proofs.layout.text_line.Tie as tie
 
 span-requires : tie.Need-span-requires
 span-requires c κs = search needs

@@ -1,7 +1,7 @@
 use Rattle.cases.proofs.Asks.{runs}
 use borrow.Author.Needs.{needs}
-use Rattle.cases.proofs.lines.words_line.Statement.{statement}
-use Rattle.cases.proofs.lines.words_line.Tie as tie
+use Rattle.cases.proofs.layout.words_line.Statement.{statement}
+use Rattle.cases.proofs.layout.words_line.Tie as tie
 
 span-requires : tie.Need-span-requires
 span-requires c κs = search needs

@@ -1,8 +1,8 @@
 use Rattle.basics.proofs.Choices.{choices}
 use Rattle.cases.specs.Lines.{askedOf}
 use borrow.Author.Needs.{needs}
-use Rattle.cases.proofs.lines.asked_of.Statement.{statement}
-use Rattle.cases.proofs.lines.asked_of.Tie as tie
+use Rattle.cases.proofs.layout.asked_of.Statement.{statement}
+use Rattle.cases.proofs.layout.asked_of.Tie as tie
 
 plain-asked-requires : tie.Need-plain-asked-requires
 plain-asked-requires c κs = search needs

@@ -3,8 +3,8 @@ use Prim.Native.Nat.{_≤_}
 use Rattle.cases.proofs.Fields.{value-within}
 use Rattle.cases.proofs.Asks.{steps}
 use borrow.Author.Needs.{needs}
-use Rattle.cases.proofs.lines.next_line.Statement.{statement}
-use Rattle.cases.proofs.lines.next_line.Tie as tie
+use Rattle.cases.proofs.layout.next_line.Statement.{statement}
+use Rattle.cases.proofs.layout.next_line.Tie as tie
 
 span-requires : tie.Need-span-requires
 span-requires c κs = search needs

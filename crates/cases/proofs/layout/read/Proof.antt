@@ -1,7 +1,7 @@
 use Rattle.cases.proofs.Asks.{line-skipped, line-read}
 use borrow.Author.Needs.{needs}
-use Rattle.cases.proofs.lines.read.Statement.{statement}
-use Rattle.cases.proofs.lines.read.Tie as tie
+use Rattle.cases.proofs.layout.read.Statement.{statement}
+use Rattle.cases.proofs.layout.read.Tie as tie
 
 is-skipped-requires : tie.Need-is-skipped-requires
 is-skipped-requires c κs = search needs

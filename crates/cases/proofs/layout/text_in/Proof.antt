@@ -1,7 +1,7 @@
 use Rattle.cases.proofs.Asks.{texts}
 use borrow.Author.Needs.{needs}
-use Rattle.cases.proofs.lines.text_in.Statement.{statement}
-use Rattle.cases.proofs.lines.text_in.Tie as tie
+use Rattle.cases.proofs.layout.text_in.Statement.{statement}
+use Rattle.cases.proofs.layout.text_in.Tie as tie
 
 span-requires : tie.Need-span-requires
 span-requires c κs = search needs

@@ -1,7 +1,7 @@
 use Rattle.cases.proofs.Asks.{skipped-blank, skipped-hash}
 use borrow.Author.Needs.{needs}
-use Rattle.cases.proofs.lines.is_skipped.Statement.{statement}
-use Rattle.cases.proofs.lines.is_skipped.Tie as tie
+use Rattle.cases.proofs.layout.is_skipped.Statement.{statement}
+use Rattle.cases.proofs.layout.is_skipped.Tie as tie
 
 count-requires : tie.Need-count-requires
 count-requires c κs = search needs

@@ -1,7 +1,7 @@
 use Rattle.cases.proofs.Asks.{step-read}
 use borrow.Author.Needs.{needs}
-use Rattle.cases.proofs.lines.step_to.Statement.{statement}
-use Rattle.cases.proofs.lines.step_to.Tie as tie
+use Rattle.cases.proofs.layout.step_to.Statement.{statement}
+use Rattle.cases.proofs.layout.step_to.Tie as tie
 
 span-requires : tie.Need-span-requires
 span-requires c κs = search needs

@@ -1,8 +1,8 @@
 use Rattle.basics.proofs.Choices.{choices}
 use Rattle.cases.specs.Lines.{plainAsked}
 use borrow.Author.Needs.{needs}
-use Rattle.cases.proofs.lines.plain_asked.Statement.{statement}
-use Rattle.cases.proofs.lines.plain_asked.Tie as tie
+use Rattle.cases.proofs.layout.plain_asked.Statement.{statement}
+use Rattle.cases.proofs.layout.plain_asked.Tie as tie
 
 returns : tie.Need-returns
 returns c = unfold plainAsked in search choices depth 8
