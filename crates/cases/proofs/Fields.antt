@@ -16,7 +16,7 @@ use Rattle.cases.specs.declared.items.Kind.the-variants.{Record, Part, W
 use Rattle.cases.specs.declared.numbers.Number.{Number}
 use Rattle.cases.specs.declared.numbers.Number.the-variants.{Value, Nothing}
 use Rattle.cases.specs.Items.{commasOf, fits, recordField, partField, stateField, isField, fieldFits, isItem, itemFits, itemCount, itemsOf, fieldOf, cellOf, cells}
-use Rattle.cases.specs.Numbers.{numberOf}
+use Rattle.cases.specs.Numbers.{numberOf, orZero}
 use Rattle.cases.specs.Spans.{span, count, upTo, rest}
 use Rattle.cases.proofs.Digits.{read-within}
 use Rattle.cases.proofs.Splits.{span-read}
@@ -34,17 +34,18 @@ module _ (radix most : ℕ) (xs : List ℕ) (n : Number) (e : n ≡ numberOf rad
   pub value-within : (v : ℕ) → n ≡ Value v → v ≤ most
   value-within v h = read-within radix most xs v (sym e ∙ h)
 
--- p is the span of field k
-module _ (radix most k : ℕ) (item p : List ℕ) (f : p ≡ span 44 k item) (n : Number) (e : n ≡ numberOf radix most p) where
-  pub field-value : (v : ℕ) → n ≡ Value v → v ≡ fieldOf radix most k item
-  unfolding fieldOf
-  field-value v h = rw (← f, ← e, h)
+  pub zero-value : (v : ℕ) → n ≡ Value v → v ≡ orZero (numberOf radix most xs)
+  zero-value v h = rw (← e, h)
 
-  pub field-nothing : n ≡ Nothing → 0 ≡ fieldOf radix most k item
-  unfolding fieldOf
-  field-nothing h = rw (← f, ← e, h)
+  pub zero-nothing : n ≡ Nothing → 0 ≡ orZero (numberOf radix most xs)
+  zero-nothing h = rw (← e, h)
 
-pub ruleset fields = (fits-value, fits-nothing, field-value, field-nothing)
+-- p is the span of field k, and v what it writes
+pub field-read : (radix most k : ℕ) (item p : List ℕ) (v : ℕ) → p ≡ span 44 k item → v ≡ orZero (numberOf radix most p) → v ≡ fieldOf radix most k item
+unfolding fieldOf
+field-read radix most k item p v f e = rw (← f) e
+
+pub ruleset fields = (fits-value, fits-nothing, zero-value, zero-nothing, field-read)
 
 module _ (kind : Kind) (k : ℕ) (xs : List ℕ) (r : Bool) where
   pub of-record : kind ≡ Record → r ≡ recordField k xs → r ≡ isField kind k xs
