@@ -15,7 +15,7 @@ ghost use Rattle.io.specs.Counts.{Counts};
 ghost use Rattle.cases.specs.Items.{fieldOf, cellOf, cells};
 
 // The number that decimals or hexadecimals write, or 0.
-fn value(digits: &[u8], base: Base, most: u32) -> u32
+pub(crate) fn value(digits: &[u8], base: Base, most: u32) -> u32
     ensures { λ r. ⌜ r ≡ orZero (numberOf (radixOf base) most (now (digits .entry))) ⌝ }
     ensures { λ r. ⌜ r ≤ most ⌝ }
 {
@@ -43,7 +43,7 @@ pub fn field32(item: &[u8], k: usize) -> u32
     value(span(item, b',', k), Base::Hexadecimal, 0xFFFFFFFF)
 }
 
-fn least(a: usize, b: usize) -> usize
+pub(crate) fn least(a: usize, b: usize) -> usize
     ensures { λ r. ⌜ r ≡ min a b ⌝ }
     ensures { λ r. ⌜ r ≤ b ⌝ }
 {

@@ -4,6 +4,7 @@ mod items;
 mod layout;
 mod numbers;
 mod spans;
+mod table;
 
 pub use columns::column8;
 pub use columns::column16;
@@ -19,3 +20,5 @@ pub use spans::letter;
 pub use spans::next_of;
 pub use spans::span;
 pub use spans::span_at;
+pub use table::Table;
+pub use table::lay_table;
