@@ -12,12 +12,12 @@ use borrow.Author.Tests.{eq-eqb, ne-eqb}
 use Rattle.basics.proofs.Sets.{every-more, every-fails}
 use Rattle.basics.specs.Sets.{every}
 use Rattle.cases.specs.declared.items.Kind.{Kind}
-use Rattle.cases.specs.declared.items.Kind.the-variants.{Record, Part, Word, State}
+use Rattle.cases.specs.declared.items.Kind.the-variants.{Record, Part, Word, State, Joint, Row, Ahead, Cell}
 use Rattle.cases.specs.declared.numbers.Number.{Number}
 use Rattle.cases.specs.declared.numbers.Number.the-variants.{Value, Nothing}
-use Rattle.cases.specs.Items.{commasOf, fits, recordField, partField, stateField, isField, fieldFits, isItem, itemFits, itemCount, itemsOf, fieldOf, cellOf, cells}
+use Rattle.cases.specs.Items.{commasOf, fits, recordField, partField, stateField, dashOr, rowField, cellField, isField, fieldFits, isItem, itemFits, itemCount, itemsOf, fieldOf, cellOf, cells}
 use Rattle.cases.specs.Numbers.{numberOf, orZero}
-use Rattle.cases.specs.Spans.{span, count, upTo, rest}
+use Rattle.cases.specs.Spans.{span, count, letter, upTo, rest}
 use Rattle.cases.proofs.Digits.{read-within}
 use Rattle.cases.proofs.Splits.{span-read}
 
@@ -47,6 +47,16 @@ field-read radix most k item p v f e = rw (← f) e
 
 pub ruleset fields = (fits-value, fits-nothing, zero-value, zero-nothing, field-read)
 
+-- s is the letter of a text of one byte
+module _ (xs : List ℕ) (s : ℕ) (e : s ≡ letter xs) where
+  pub dash-here : s ≡ 45 → true ≡ dashOr xs
+  unfolding dashOr
+  dash-here h = rw (← e, eq-eqb s 45 h)
+
+  pub dash-not : (t : Bool) → (s ≡ 45 → ⊥) → t ≡ fits 10 255 xs → t ≡ dashOr xs
+  unfolding dashOr
+  dash-not t h f = rw (← e, ne-eqb s 45 h) f
+
 module _ (kind : Kind) (k : ℕ) (xs : List ℕ) (r : Bool) where
   pub of-record : kind ≡ Record → r ≡ recordField k xs → r ≡ isField kind k xs
   unfolding isField
@@ -64,7 +74,23 @@ module _ (kind : Kind) (k : ℕ) (xs : List ℕ) (r : Bool) where
   unfolding isField
   of-state h e = rw h e
 
-pub ruleset kinds = (of-record, of-part, of-word, of-state)
+  pub of-joint : kind ≡ Joint → r ≡ fits 10 255 xs → r ≡ isField kind k xs
+  unfolding isField
+  of-joint h e = rw h e
+
+  pub of-row : kind ≡ Row → r ≡ rowField k xs → r ≡ isField kind k xs
+  unfolding isField
+  of-row h e = rw h e
+
+  pub of-ahead : kind ≡ Ahead → r ≡ dashOr xs → r ≡ isField kind k xs
+  unfolding isField
+  of-ahead h e = rw h e
+
+  pub of-cell : kind ≡ Cell → r ≡ cellField xs → r ≡ isField kind k xs
+  unfolding isField
+  of-cell h e = rw h e
+
+pub ruleset kinds = (of-record, of-part, of-word, of-state, of-joint, of-row, of-ahead, of-cell)
 
 -- the loop over the fields of an item; n and last are the commas that it has and should have
 module _ (kind : Kind) (item : List ℕ) (n last : ℕ) (en : n ≡ count 44 item) (el : last ≡ commasOf kind) where

@@ -2,6 +2,7 @@
 use crate::columns::field8;
 use crate::items::Kind;
 use crate::items::count_items;
+use crate::items::fits;
 use crate::items::is_item;
 use crate::numbers::Base;
 use crate::numbers::MOST16;
@@ -12,12 +13,16 @@ use crate::spans::letter;
 use crate::spans::same;
 use crate::spans::span;
 use classes::Mode;
+use lines::LineState;
+use lines::Previous;
+use lines::Strength;
 use records::Parser;
 use records::cells::cell8;
 use words::Next;
 use words::WordState;
 ghost use mathlib.Core.Path.{_≡_};
-ghost use Rattle.cases.specs.Lines.{skipped, fullAsked, plainAsked, khmerAsked, askedOf, textIn, moded, textLine, wordsLine, stateOf, stepTo, nextLine, stepLine, kindLine, lineOf};
+ghost use Rattle.cases.specs.Lines as Lines;
+ghost use Rattle.cases.specs.Lines.{skipped, fullAsked, plainAsked, khmerAsked, askedOf, textIn, moded, textLine, wordsLine, stateOf, aheadOf, stepOf, stepLine, previousOf, lineStateOf, lineStep, boundaryOf, boundaryStep, lentLine, tableLine, strengthLine, kindLine, lineOf};
 
 pub enum Line {
     Skipped,
@@ -42,6 +47,32 @@ pub enum Line {
         class: u8,
         pictograph: u8,
         next: Next,
+    },
+    // What is asked over a table: the crate's own, or one that `lay_table` lays from part 2 of the line.
+    Lent {
+        strength: Strength,
+        own: bool,
+        task: Task,
+    },
+}
+
+pub enum Task {
+    LineStep {
+        state: LineState,
+        class: u8,
+    },
+    BoundaryStep {
+        line_state: LineState,
+        word_state: WordState,
+        line: u8,
+        word: u8,
+        pictograph: u8,
+        next: Next,
+    },
+    // The columns are read by `column8` from part 4 of the line.
+    Boundaries {
+        cells: u32,
+        records: u32,
     },
 }
 
@@ -207,29 +238,25 @@ fn state_of(item: &[u8]) -> WordState
     }
 }
 
-fn step_to(line: &[u8], next: Next) -> Line
-    ensures { λ r. ⌜ r ≡ stepTo (now (line .entry)) next ⌝ }
+fn ahead_of(item: &[u8]) -> Next
+    ensures { λ r. ⌜ r ≡ aheadOf (now (item .entry)) ⌝ }
+{
+    if letter(item) == b'-' {
+        return Next::End;
+    }
+    Next::Class(field8(item, 0))
+}
+
+fn step_of(line: &[u8]) -> Line
+    ensures { λ r. ⌜ r ≡ stepOf (now (line .entry)) ⌝ }
 {
     let word = span(line, b';', 2);
     Line::Step {
         state: state_of(span(line, b';', 1)),
         class: field8(word, 0),
         pictograph: field8(word, 1),
-        next,
+        next: ahead_of(span(line, b';', 3)),
     }
-}
-
-fn next_line(line: &[u8]) -> Line
-    ensures { λ r. ⌜ r ≡ nextLine (now (line .entry)) ⌝ }
-{
-    let next = span(line, b';', 3);
-    if letter(next) == b'-' {
-        return step_to(line, Next::End);
-    }
-    let Number::Value(class) = read_number(next, Base::Decimal, 255) else {
-        return Line::NotOfLayout;
-    };
-    step_to(line, Next::Class(class as u8))
 }
 
 fn step_line(line: &[u8]) -> Line
@@ -237,8 +264,150 @@ fn step_line(line: &[u8]) -> Line
 {
     if is_item(span(line, b';', 1), Kind::State) {
         if is_item(span(line, b';', 2), Kind::Word) {
-            return next_line(line);
+            if is_item(span(line, b';', 3), Kind::Ahead) {
+                return step_of(line);
+            }
         }
+    }
+    Line::NotOfLayout
+}
+
+fn previous_of(item: &[u8]) -> Previous
+    ensures { λ r. ⌜ r ≡ previousOf (now (item .entry)) ⌝ }
+{
+    if letter(span(item, b',', 1)) == b'-' {
+        return Previous::Nothing;
+    }
+    Previous::Class(field8(item, 1))
+}
+
+fn line_state_of(item: &[u8]) -> LineState
+    ensures { λ r. ⌜ r ≡ lineStateOf (now (item .entry)) ⌝ }
+{
+    LineState {
+        row: field8(item, 0),
+        previous: previous_of(item),
+    }
+}
+
+fn line_step(line: &[u8], strength: Strength, own: bool) -> Line
+    ensures { λ r. ⌜ r ≡ lineStep strength own (now (line .entry)) ⌝ }
+{
+    let state = span(line, b';', 3);
+    let class = span(line, b';', 4);
+    if is_item(state, Kind::Row) {
+        if fits(class, Base::Decimal, 255) {
+            let task = Task::LineStep {
+                state: line_state_of(state),
+                class: field8(class, 0),
+            };
+            return Line::Lent {
+                strength,
+                own,
+                task,
+            };
+        }
+    }
+    Line::NotOfLayout
+}
+
+fn boundary_of(line: &[u8], strength: Strength, own: bool) -> Line
+    ensures { λ r. ⌜ r ≡ boundaryOf strength own (now (line .entry)) ⌝ }
+{
+    let joint = span(line, b';', 5);
+    let task = Task::BoundaryStep {
+        line_state: line_state_of(span(line, b';', 3)),
+        word_state: state_of(span(line, b';', 4)),
+        line: field8(joint, 0),
+        word: field8(joint, 1),
+        pictograph: field8(joint, 2),
+        next: ahead_of(span(line, b';', 6)),
+    };
+    Line::Lent {
+        strength,
+        own,
+        task,
+    }
+}
+
+fn boundary_step(line: &[u8], strength: Strength, own: bool) -> Line
+    ensures { λ r. ⌜ r ≡ boundaryStep strength own (now (line .entry)) ⌝ }
+{
+    if is_item(span(line, b';', 3), Kind::Row) {
+        if is_item(span(line, b';', 4), Kind::State) {
+            if is_item(span(line, b';', 5), Kind::Joint) {
+                if is_item(span(line, b';', 6), Kind::Ahead) {
+                    return boundary_of(line, strength, own);
+                }
+            }
+        }
+    }
+    Line::NotOfLayout
+}
+
+fn boundaries(line: &[u8], strength: Strength, own: bool) -> Line
+    ensures { λ r. ⌜ r ≡ Lines.boundaries strength own (now (line .entry)) ⌝ }
+{
+    let Number::Value(cells) = read_number(span(line, b';', 3), Base::Decimal, MOST16) else {
+        return Line::NotOfLayout;
+    };
+    let Number::Value(records) = count_items(span(line, b';', 4), Kind::Joint) else {
+        return Line::NotOfLayout;
+    };
+    let task = Task::Boundaries { cells, records };
+    Line::Lent {
+        strength,
+        own,
+        task,
+    }
+}
+
+fn lent_line(line: &[u8], kind: u8, strength: Strength, own: bool) -> Line
+    ensures { λ r. ⌜ r ≡ lentLine kind strength own (now (line .entry)) ⌝ }
+{
+    let semicolons = count(line, b';');
+    if semicolons == 4 {
+        if kind == b'l' {
+            return line_step(line, strength, own);
+        }
+        if kind == b'L' {
+            return boundaries(line, strength, own);
+        }
+        return Line::NotOfLayout;
+    }
+    if semicolons == 6 {
+        if kind == b'n' {
+            return boundary_step(line, strength, own);
+        }
+    }
+    Line::NotOfLayout
+}
+
+fn table_line(line: &[u8], kind: u8, strength: Strength) -> Line
+    ensures { λ r. ⌜ r ≡ tableLine kind strength (now (line .entry)) ⌝ }
+{
+    let table = span(line, b';', 2);
+    if same(table, b"crate") {
+        return lent_line(line, kind, strength, true);
+    }
+    match count_items(table, Kind::Cell) {
+        Number::Value(_) => lent_line(line, kind, strength, false),
+        Number::Nothing => Line::NotOfLayout,
+    }
+}
+
+fn strength_line(line: &[u8], kind: u8) -> Line
+    ensures { λ r. ⌜ r ≡ strengthLine kind (now (line .entry)) ⌝ }
+{
+    let strength = span(line, b';', 1);
+    if same(strength, b"Normal") {
+        return table_line(line, kind, Strength::Normal);
+    }
+    if same(strength, b"BreakAll") {
+        return table_line(line, kind, Strength::BreakAll);
+    }
+    if same(strength, b"KeepAll") {
+        return table_line(line, kind, Strength::KeepAll);
     }
     Line::NotOfLayout
 }
@@ -260,8 +429,9 @@ fn kind_line(line: &[u8], kind: u8) -> Line
         if kind == b'w' {
             return step_line(line);
         }
+        return Line::NotOfLayout;
     }
-    Line::NotOfLayout
+    strength_line(line, kind)
 }
 
 pub fn read(line: &[u8]) -> Line

@@ -12,6 +12,7 @@ pub use columns::column32;
 pub use items::Kind;
 pub use items::count_items;
 pub use layout::Line;
+pub use layout::Task;
 pub use layout::read;
 pub use numbers::Base;
 pub use numbers::Number;

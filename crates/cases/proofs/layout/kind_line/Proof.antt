@@ -1,5 +1,5 @@
-use Rattle.cases.proofs.Asks.{asks}
 use Rattle.cases.specs.Lines.{kindLine}
+use Rattle.cases.proofs.Asks.{asks}
 use borrow.Author.Needs.{needs}
 use Rattle.cases.proofs.layout.kind_line.Statement.{statement}
 use Rattle.cases.proofs.layout.kind_line.Tie as tie
@@ -31,6 +31,9 @@ returns-4 c = unfold kindLine in search asks depth 8
 returns-5 : tie.Need-returns-5
 returns-5 c = unfold kindLine in search asks depth 8
 
+strength-line-requires : tie.Need-strength-line-requires
+strength-line-requires c κs = search needs
+
 returns-6 : tie.Need-returns-6
 returns-6 c = unfold kindLine in search asks depth 8
 
@@ -47,4 +50,5 @@ kind-line-spec =
     step-line-requires
     returns-4
     returns-5
+    strength-line-requires
     returns-6)

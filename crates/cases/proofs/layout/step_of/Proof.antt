@@ -1,7 +1,7 @@
 use Rattle.cases.proofs.Asks.{step-read}
 use borrow.Author.Needs.{needs}
-use Rattle.cases.proofs.layout.step_to.Statement.{statement}
-use Rattle.cases.proofs.layout.step_to.Tie as tie
+use Rattle.cases.proofs.layout.step_of.Statement.{statement}
+use Rattle.cases.proofs.layout.step_of.Tie as tie
 
 span-requires : tie.Need-span-requires
 span-requires c κs = search needs
@@ -18,11 +18,17 @@ field8-requires c κs = search needs
 field8-requires-2 : tie.Need-field8-requires-2
 field8-requires-2 c κs = search needs
 
+span-requires-3 : tie.Need-span-requires-3
+span-requires-3 c κs = search needs
+
+ahead-of-requires : tie.Need-ahead-of-requires
+ahead-of-requires c κs = search needs
+
 returns : tie.Need-returns
 returns c = search step-read
 
-pub step-to-spec : {M : Type 1} → statement M
-step-to-spec =
+pub step-of-spec : {M : Type 1} → statement M
+step-of-spec =
     tie.close
     (tie.spec
     span-requires
@@ -30,4 +36,6 @@ step-to-spec =
     state-of-requires
     field8-requires
     field8-requires-2
+    span-requires-3
+    ahead-of-requires
     returns)
