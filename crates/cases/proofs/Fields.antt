@@ -5,21 +5,21 @@ use mathlib.Core.Bool.{Bool, true, false}
 use mathlib.Core.List.{List, _++_, append-assoc}
 use native.Mathlib.Numerals.{add-one}
 use native.Mathlib.Omega.{arith}
-use lib.Dec.{eqb}
-use lib.ListN.{length, drop, set, length-append}
-use lib.Seq.{drop-cons, set-at}
+use lib.ListN.{length, drop, set, length-append, length-set}
+use lib.Seq.{drop-cons, set-at, length-take-le}
 use borrow.Author.Tests.{eq-eqb, ne-eqb}
 use Rattle.basics.proofs.Sets.{every-more, every-fails}
 use Rattle.basics.specs.Sets.{every}
+use Rattle.io.specs.Counts.{Counts}
 use Rattle.cases.specs.declared.items.Kind.{Kind}
 use Rattle.cases.specs.declared.items.Kind.the-variants.{Record, Part, Word, State, Joint, Row, Ahead, Cell}
 use Rattle.cases.specs.declared.numbers.Number.{Number}
 use Rattle.cases.specs.declared.numbers.Number.the-variants.{Value, Nothing}
 use Rattle.cases.specs.Items.{commasOf, fits, recordField, partField, stateField, dashOr, rowField, cellField, isField, fieldFits, isItem, itemFits, itemCount, itemsOf, fieldOf, cellOf, cells}
 use Rattle.cases.specs.Numbers.{numberOf, orZero}
-use Rattle.cases.specs.Spans.{span, count, letter, upTo, rest}
+use Rattle.cases.specs.Spans.{span, count, letter, upTo, nextFrom, rest}
 use Rattle.cases.proofs.Digits.{read-within}
-use Rattle.cases.proofs.Splits.{span-read}
+use Rattle.cases.proofs.Splits.{span-read, rest-more}
 
 -- n is what was read of the digits
 module _ (radix most : ℕ) (xs : List ℕ) (n : Number) (e : n ≡ numberOf radix most xs) where
@@ -152,9 +152,22 @@ filled-more : (f : ℕ → ℕ) (out₀ out : List ℕ) (i : ℕ) → i < length
 unfolding cells
 filled-more f out₀ out i h e = rw (add-one i, append-assoc, e, drop-cons out₀ i 0 h) (set-at (cells f i) _ _ _ i (cells-length f i))
 
-pub column-more : (radix most k : ℕ) (xs : List ℕ) (i at : ℕ) → drop at xs ≡ rest 32 i xs → (p : List ℕ) → p ≡ upTo 32 (drop at xs) → (v : ℕ) → v ≡ fieldOf radix most k p
-    → (out₀ out : List ℕ) → i < length out₀ → Filled (cellOf radix most k xs) out₀ i out → Filled (cellOf radix most k xs) out₀ (i + 1) (set out i v)
-unfolding cellOf
-column-more radix most k xs i at left p ep v ev out₀ out h e =
-    let f : v ≡ cellOf radix most k xs i = ev ∙ ap (fieldOf radix most k) (span-read 32 xs i at left p ep) in
-    rw f (filled-more (cellOf radix most k xs) out₀ out i h e)
+-- a loop that reads a column of any width, before item i of n, which begins at `at`
+abbrev pub Reading : (ℕ → ℕ) → List ℕ → List ℕ → ℕ → List ℕ → ℕ → ℕ → Type 0
+Reading f xs out₀ n out at i = (i ≤ n) × ((length out ≡ length out₀) × ((drop at xs ≡ rest 32 i xs) × Filled f out₀ i out))
+
+module _ (radix most k : ℕ) (xs out₀ : List ℕ) (n : ℕ) (out : List ℕ) (at i : ℕ) (reading : Reading (cellOf radix most k xs) xs out₀ n out at i) (l : n ≤ length out₀) where
+  pub column-more : i < n → (p : List ℕ) → p ≡ upTo 32 (drop at xs) → (v : ℕ) → v ≡ fieldOf radix most k p → (next : ℕ) → next ≡ nextFrom 32 at xs
+      → Reading (cellOf radix most k xs) xs out₀ n (set out i v) next (i + 1)
+  unfolding cellOf
+  column-more h p ep v ev next en =
+      let left : drop at xs ≡ rest 32 i xs = reading .1 .1 .0 in
+      let f : v ≡ cellOf radix most k xs i = ev ∙ ap (fieldOf radix most k) (span-read 32 xs i at left p ep) in
+      let j : i < length out₀ = omega arith in
+      (omega arith, (length-set out i v ∙ reading .1 .0, (rest-more 32 xs i at left next en, rw f (filled-more (cellOf radix most k xs) out₀ out i j (reading .1 .1 .1)))))
+
+  pub column-all : n ≤ i → Counts n out × (out ≡ cells (cellOf radix most k xs) n ++ drop n out₀)
+  column-all h =
+      let e : i ≡ n = omega (arith, reading .0) in
+      let m : n ≤ length out = omega (arith, reading .1 .0) in
+      ((m, sym (length-take-le n out m)), rw (← e) (reading .1 .1 .1))
