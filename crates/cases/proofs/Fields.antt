@@ -1,13 +1,14 @@
 -- Fields, items and their columns as the loops read them. Assumes nothing.
-use Prim.Native.Nat.{ℕ, zero, suc, _+_, _<_, _≤_}
-use mathlib.Core.Path.{_≡_, refl, sym, _∙_, ap}
+use Prim.Native.Nat.{ℕ, _+_, _<_, _≤_}
+use mathlib.Core.Path.{_≡_, sym, _∙_, ap}
 use mathlib.Core.Bool.{Bool, true, false}
-use mathlib.Core.List.{List, _++_, append-assoc}
-use native.Mathlib.Numerals.{add-one}
+use mathlib.Core.List.{List, _++_}
 use native.Mathlib.Omega.{arith}
-use lib.ListN.{length, drop, set, length-append, length-set}
-use lib.Seq.{drop-cons, set-at, length-take-le}
+use lib.ListN.{length, drop, set, length-set}
+use lib.Seq.{length-take-le}
 use borrow.Author.Tests.{eq-eqb, ne-eqb}
+use Rattle.basics.specs.Columns.{cells}
+use Rattle.basics.proofs.Columns.{Written, written-more}
 use Rattle.basics.proofs.Sets.{every-more, every-fails}
 use Rattle.basics.specs.Sets.{every}
 use Rattle.io.specs.Counts.{Counts}
@@ -15,7 +16,7 @@ use Rattle.cases.specs.declared.items.Kind.{Kind}
 use Rattle.cases.specs.declared.items.Kind.the-variants.{Record, Part, Word, State, Joint, Row, Ahead, Cell}
 use Rattle.cases.specs.declared.numbers.Number.{Number}
 use Rattle.cases.specs.declared.numbers.Number.the-variants.{Value, Nothing}
-use Rattle.cases.specs.Items.{commasOf, fits, recordField, partField, stateField, dashOr, rowField, cellField, isField, fieldFits, isItem, itemFits, itemCount, itemsOf, fieldOf, cellOf, cells}
+use Rattle.cases.specs.Items.{commasOf, fits, recordField, partField, stateField, dashOr, rowField, cellField, isField, fieldFits, isItem, itemFits, itemCount, itemsOf, fieldOf, cellOf}
 use Rattle.cases.specs.Numbers.{numberOf, orZero}
 use Rattle.cases.specs.Spans.{span, count, letter, upTo, nextFrom, rest}
 use Rattle.cases.proofs.Digits.{read-within}
@@ -139,22 +140,9 @@ module _ (kind : Kind) (xs : List ℕ) (i at : ℕ) (left : drop at xs ≡ rest 
   unfolding itemsOf
   items-all z last e l a h c ec = rw (ne-eqb _ _ z, ← e, ← l, items-more a h) (ap Value (ec ∙ ap itemCount (sym l)))
 
-pub cells-length : (f : ℕ → ℕ) (n : ℕ) → length (cells f n) ≡ n
-unfolding cells
-cells-length f zero = refl
-cells-length f (suc n) = simp (length-append, cells-length f n) (omega arith)
-
--- a column after i items, whatever its width
-abbrev pub Filled : (ℕ → ℕ) → List ℕ → ℕ → List ℕ → Type 0
-Filled f out₀ i out = out ≡ cells f i ++ drop i out₀
-
-filled-more : (f : ℕ → ℕ) (out₀ out : List ℕ) (i : ℕ) → i < length out₀ → Filled f out₀ i out → Filled f out₀ (i + 1) (set out i (f i))
-unfolding cells
-filled-more f out₀ out i h e = rw (add-one i, append-assoc, e, drop-cons out₀ i 0 h) (set-at (cells f i) _ _ _ i (cells-length f i))
-
 -- a loop that reads a column of any width, before item i of n, which begins at `at`
 abbrev pub Reading : (ℕ → ℕ) → List ℕ → List ℕ → ℕ → List ℕ → ℕ → ℕ → Type 0
-Reading f xs out₀ n out at i = (i ≤ n) × ((length out ≡ length out₀) × ((drop at xs ≡ rest 32 i xs) × Filled f out₀ i out))
+Reading f xs out₀ n out at i = (i ≤ n) × ((length out ≡ length out₀) × ((drop at xs ≡ rest 32 i xs) × Written f out₀ i out))
 
 module _ (radix most k : ℕ) (xs out₀ : List ℕ) (n : ℕ) (out : List ℕ) (at i : ℕ) (reading : Reading (cellOf radix most k xs) xs out₀ n out at i) (l : n ≤ length out₀) where
   pub column-more : i < n → (p : List ℕ) → p ≡ upTo 32 (drop at xs) → (v : ℕ) → v ≡ fieldOf radix most k p → (next : ℕ) → next ≡ nextFrom 32 at xs
@@ -164,7 +152,7 @@ module _ (radix most k : ℕ) (xs out₀ : List ℕ) (n : ℕ) (out : List ℕ) 
       let left : drop at xs ≡ rest 32 i xs = reading .1 .1 .0 in
       let f : v ≡ cellOf radix most k xs i = ev ∙ ap (fieldOf radix most k) (span-read 32 xs i at left p ep) in
       let j : i < length out₀ = omega arith in
-      (omega arith, (length-set out i v ∙ reading .1 .0, (rest-more 32 xs i at left next en, rw f (filled-more (cellOf radix most k xs) out₀ out i j (reading .1 .1 .1)))))
+      (omega arith, (length-set out i v ∙ reading .1 .0, (rest-more 32 xs i at left next en, rw f (written-more (cellOf radix most k xs) out₀ out i j (reading .1 .1 .1)))))
 
   pub column-all : n ≤ i → Counts n out × (out ≡ cells (cellOf radix most k xs) n ++ drop n out₀)
   column-all h =

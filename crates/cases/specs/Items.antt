@@ -1,7 +1,7 @@
 -- Items with one blank between, each of fields with one comma between.
-use Prim.Native.Nat.{ℕ, zero, suc, _+_}
+use Prim.Native.Nat.{ℕ, _+_}
 use mathlib.Core.Bool.{Bool, false, cond, _&&_, _||_}
-use mathlib.Core.List.{List, [], _∷_, _++_}
+use mathlib.Core.List.{List}
 use lib.Dec.{eqb, ltb}
 use lib.ListN.{length}
 use Rattle.records.specs.Refusals.{most}
@@ -95,8 +95,3 @@ fieldOf radix most k item = orZero (numberOf radix most (span 44 k item))
 -- field k of item i
 unfoldable pub cellOf : ℕ → ℕ → ℕ → List ℕ → ℕ → ℕ
 cellOf radix most k xs i = fieldOf radix most k (span 32 i xs)
-
--- the cells of the first n items
-unfoldable pub cells : (ℕ → ℕ) → ℕ → List ℕ
-cells f zero = []
-cells f (suc n) = cells f n ++ (f n ∷ [])

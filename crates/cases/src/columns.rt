@@ -10,9 +10,10 @@ ghost use mathlib.Core.Path.{_≡_};
 ghost use mathlib.Core.List.{_++_};
 ghost use Prim.Native.Nat.{min, _≤_};
 ghost use lib.ListN.{length, drop};
+ghost use Rattle.basics.specs.Columns.{cells};
 ghost use Rattle.cases.specs.Numbers.{most16, radixOf, numberOf, orZero};
 ghost use Rattle.io.specs.Counts.{Counts};
-ghost use Rattle.cases.specs.Items.{fieldOf, cellOf, cells};
+ghost use Rattle.cases.specs.Items.{fieldOf, cellOf};
 
 // The number that decimals or hexadecimals write, or 0.
 pub(crate) fn value(digits: &[u8], base: Base, most: u32) -> u32

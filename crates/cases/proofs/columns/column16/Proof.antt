@@ -1,6 +1,7 @@
+use Rattle.basics.specs.Columns.{cells}
 use Rattle.cases.specs.Numbers.{most16}
 use Rattle.cases.proofs.Fields.{Reading, column-more, column-all}
-use Rattle.cases.specs.Items.{cellOf, cells}
+use Rattle.cases.specs.Items.{cellOf}
 use Rattle.cases.specs.Spans.{rest}
 use mathlib.Core.Path.{refl}
 use Prim.Native.Nat.{_-_}
