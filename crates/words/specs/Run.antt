@@ -1,12 +1,9 @@
 -- The word run: the step over two columns from the start state on.
 use Prim.Native.Nat.{ℕ, zero, suc, _+_}
-use mathlib.Core.Path.{_≡_}
 use mathlib.Core.Bool.{cond}
 use mathlib.Core.List.{List, [], _∷_, _++_}
 use lib.Dec.{ltb}
 use lib.ListN.{length, drop}
-use denote.Ref.{RefT, now}
-use denote.Triple.Both.{Both}
 use Rattle.records.specs.Text.{cell}
 use Rattle.records.specs.Refusals.{refuse, _⊳_, wordVerdict}
 use Rattle.records.specs.declared.Side.the-variants.{Neither}
@@ -53,8 +50,3 @@ cellsUnder (Refused r) words pictographs out = out
 -- what stands in the lent column after a run
 abbrev pub runCells : List ℕ → List ℕ → List ℕ → List ℕ
 runCells words pictographs out = cellsUnder (runVerdict words pictographs (length out)) words pictographs out
-
--- what a run hands back, and leaves in the lent column
-abbrev pub RanOver : List ℕ → List ℕ → Both (RefT (List ℕ)) (RefT (List ℕ)) → Verdict → Type 0
-RanOver words pictographs out r =
-    (r ≡ runVerdict words pictographs (length (now (out .entry)))) × (now (out .exit) ≡ runCells words pictographs (now (out .entry)))

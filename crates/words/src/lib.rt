@@ -15,7 +15,7 @@ ghost use mathlib.Core.List.{_++_};
 ghost use Prim.Native.Nat.{_≤_};
 ghost use lib.ListN.{length, drop};
 ghost use Rattle.words.specs.Step.{startState, stepOf};
-ghost use Rattle.words.specs.Run.{nextAt, answers, RanOver};
+ghost use Rattle.words.specs.Run.{nextAt, answers, runVerdict, runCells};
 
 // What the machine keeps between two records: whether none came yet, the class before, whether the next record has no boundary before
 // it, and the count of RI, 0 to 2. Every value is allowed, and the step refuses those that no run has.
@@ -118,7 +118,8 @@ fn write_answers(words: &[u8], pictographs: &[u8], out: &mut [u8])
 
 // The answers to a whole text, one cell a record.
 pub fn run(words: &[u8], pictographs: &[u8], out: &mut [u8]) -> Verdict
-    ensures { λ r. ⌜ RanOver (now (words .entry)) (now (pictographs .entry)) out r ⌝ }
+    ensures { λ r. ⌜ r ≡ runVerdict (now (words .entry)) (now (pictographs .entry)) (length (now (out .entry))) ⌝ }
+    ensures { λ _. ⌜ now (out .exit) ≡ runCells (now (words .entry)) (now (pictographs .entry)) (now (out .entry)) ⌝ }
 {
     let checked = check_words(words, pictographs);
     let Verdict::Accepted = checked else {
