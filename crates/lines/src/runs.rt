@@ -126,8 +126,9 @@ pub(crate) fn lay(table: &[u8], strength: Strength, lines: &[u8], out: &mut [u8]
     while i < lines.len() {
         let class = cell8(lines, i);
         let answer = state.answer(table, strength, class);
-        out[i] = merge(answer.code(), out[i]);
+        // before the store, so that the table's cell is read once
         state = state.after(table, class);
+        out[i] = merge(answer.code(), out[i]);
         i += 1;
     }
 }
