@@ -336,7 +336,7 @@ fn the_fixed_lists() {
     }
     println!("compared: {compared:?}");
     // each kind has its cases, so that a list that is read wrongly does not pass
-    for kind in "SMCWwsmc".chars() {
+    for kind in "SMCWwsmclnL".chars() {
         assert!(compared.get(&kind).is_some_and(|&count| 400 < count), "{kind}: {compared:?}");
     }
 }
