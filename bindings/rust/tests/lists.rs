@@ -336,8 +336,10 @@ fn the_fixed_lists() {
     }
     println!("compared: {compared:?}");
     // each kind has its cases, so that a list that is read wrongly does not pass
-    for kind in "SMCWwsmclnL".chars() {
-        assert!(compared.get(&kind).is_some_and(|&count| 400 < count), "{kind}: {compared:?}");
+    for (kinds, least) in [("SMCWwsmc", 400), ("lnL", 20)] {
+        for kind in kinds.chars() {
+            assert!(compared.get(&kind).is_some_and(|&count| least < count), "{kind}: {compared:?}");
+        }
     }
 }
 
