@@ -5,7 +5,7 @@
  * written overlaps no other column of the call. Nothing is kept between two calls.
  *
  * Stack. A call on a label of up to 256 tokens fits in 16 KiB, a call on any text in 256 KiB. Measured on x86-64 and on Arm: 13.5 KB for a
- * label (ezh_step; ezh_run 12.2 KB, simple 4.3), 115 KB for the longest text, of which 96 KiB hold its tokens; the check, the words
+ * label (ezh_step; ezh_run 12.3 KB, simple 4.4), 115 KB for the longest text, of which 96 KiB hold its tokens; the check, the words
  * and the lines need less than 1 KB. bench/stack measures it.
  *
  * A text is 18 columns, in this order in every call. Fourteen with a cell for each record: scalar, cluster break, USE class, Myanmar
