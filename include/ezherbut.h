@@ -205,7 +205,7 @@ uint64_t ezh_step_word(uint64_t first, uint64_t previous, uint64_t prevent, uint
 /*
  * A run of lines: for each record what stands before it, EZH_BOUNDARY_MANDATORY where a line must be broken, EZH_BOUNDARY_LINE where it
  * may be, else EZH_BOUNDARY_WORD where a word boundary stands, else EZH_BOUNDARY_NONE. The strength is EZH_STRENGTH_NORMAL,
- * EZH_STRENGTH_BREAKALL (break inside words too) or EZH_STRENGTH_KEEPALL (letters, digits and ideographs hold together). Results:
+ * EZH_STRENGTH_BREAKALL (break inside words too) or EZH_STRENGTH_KEEPALL (no break between two of AI, AL, ID, NU, HY, H2, H3, JL, JV, JT, CJ). Results:
  * EZH_CHECK_CELLS.
  * Refusals: 9 (results), 4 (strength), 1 and 2 of the columns lines, words and pictographs, 10, 4 of any of the three by rising index,
  * and 9 where out has fewer cells than there are records.

@@ -11,7 +11,7 @@ pub enum Strength {
     Normal,
     /// A line may be broken inside a word too.
     BreakAll,
-    /// Letters, digits and ideographs hold together.
+    /// No break between two of the classes AI, AL, ID, NU, HY, H2, H3, JL, JV, JT and CJ: letters, digits, ideographs and Hangul.
     KeepAll,
 }
 
@@ -29,7 +29,7 @@ impl Strength {
 #[derive(Clone, Copy, Debug, PartialEq, Eq)]
 pub enum Boundary {
     None,
-    /// A word begins, and no line may be broken.
+    /// A word boundary, where no line may be broken.
     Word,
     /// A line may be broken.
     Line,
