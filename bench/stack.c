@@ -80,15 +80,18 @@ static void lend(size_t pattern, size_t tokens) {
 }
 
 /* The call under way, and what it writes. */
-enum { CHECK, RUN, STEP, CHECK_WORDS, RUN_WORDS, STEP_WORD, CALLS };
-static const char *names[] = {"ezh_check", "ezh_run", "ezh_step", "ezh_check_words", "ezh_run_words", "ezh_step_word"};
+enum { CHECK, RUN, STEP, CHECK_WORDS, RUN_WORDS, STEP_WORD, RUN_LINES, STEP_LINE, STEP_NEXT, CALLS };
+static const char *names[] = {"ezh_check",     "ezh_run",       "ezh_step",      "ezh_check_words", "ezh_run_words",
+                              "ezh_step_word", "ezh_run_lines", "ezh_step_line", "ezh_step_next"};
 static int call;
-static uint64_t parser, mode, results[EZH_STEP_CELLS];
+static uint64_t parser, mode, strength, results[EZH_STEP_CELLS];
 static size_t place;
 static uint32_t out_scalars[CELLS];
 static uint8_t out_classes[CELLS];
 static uint16_t out_numbers[CELLS], out_noted[EZH_CLUSTER_CELLS];
 static unsigned char *stack, *frame;
+
+#define TABLE EZH_PAIR_TABLE, sizeof EZH_PAIR_TABLE
 
 static void *made(void *none) {
     frame = __builtin_frame_address(0);
@@ -109,8 +112,19 @@ static void *made(void *none) {
     case RUN_WORDS:
         ezh_run_words(zeros, text.records, emojis, text.records, out_classes, CELLS, results, EZH_STEP_CELLS);
         break;
-    default:
+    case STEP_WORD:
         ezh_step_word(1, EZH_WORD_OTHER, 0, 0, zeros[0], emojis[0], zeros, text.records, results, EZH_STEP_CELLS);
+        break;
+    case RUN_LINES:
+        ezh_run_lines(strength, TABLE, zeros, text.records, zeros, text.records, emojis, text.records, out_classes, CELLS, results,
+                      EZH_STEP_CELLS);
+        break;
+    case STEP_LINE:
+        ezh_step_line(strength, TABLE, EZH_LINE_START, zeros, text.records, zeros[0], results, EZH_STEP_CELLS);
+        break;
+    default:
+        ezh_step_next(strength, TABLE, EZH_LINE_START, zeros, text.records, 1, EZH_WORD_OTHER, 0, 0, zeros[0], zeros[0], emojis[0], zeros,
+                      text.records, results, EZH_STEP_CELLS);
     }
     return none;
 }
@@ -138,12 +152,18 @@ static void at_least(size_t *most, size_t bytes) {
     }
 }
 
-/* The most that a call takes, over the texts, the modes and the places of a stepping call, of which a long text has the first few. */
+/*
+ * The most that a call takes, over the texts, the modes, the strengths of a call over lines, and the places of a stepping call, of which
+ * a long text has the first few.
+ */
 static size_t most(size_t tokens) {
     size_t bytes = 0;
     for (size_t pattern = 0; pattern < sizeof patterns / sizeof *patterns; pattern++) {
         lend(pattern, tokens);
         for (mode = EZH_CRATE; mode <= EZH_WHOLE; mode++) {
+            for (strength = EZH_STRENGTH_NORMAL; call >= RUN_LINES && strength < EZH_STRENGTH_KEEPALL; strength++) {
+                at_least(&bytes, measured());
+            }
             place = 0;
             for (int steps = 0; steps < STEPS; steps++) {
                 at_least(&bytes, measured());

@@ -5,14 +5,18 @@
  * written overlaps no other column of the call. Nothing is kept between two calls.
  *
  * Stack. A call on a label of up to 256 tokens fits in 16 KiB, a call on any text in 256 KiB. Measured on x86-64 and on Arm: 13.5 KB for a
- * label (ezh_step; ezh_run 12.2 KB, simple 4.3), 115 KB for the longest text, of which 96 KiB hold its tokens; the check and the words
- * need less than 1 KB. bench/stack measures it.
+ * label (ezh_step; ezh_run 12.3 KB, simple 4.4), 115 KB for the longest text, of which 96 KiB hold its tokens; the check, the words
+ * and the lines need less than 1 KB. bench/stack measures it.
  *
  * A text is 18 columns, in this order in every call. Fourteen with a cell for each record: scalar, cluster break, USE class, Myanmar
  * class, category, word class, then the marks (0 no, 1 yes) emoji for the simple, the Myanmar and the complex parser, pictograph,
  * variation selector, decompose, then first part and count of parts. Four with a cell for each part: scalar, cluster break, USE class,
- * category. The codes, and the numbers of parsers, modes and answers, are in ezherbut_codes.h. A text has at most 4,096 records and
- * 4,096 parts.
+ * category. The codes, and the numbers of parsers, modes, strengths and answers, are in ezherbut_codes.h. A text has at most 4,096
+ * records and 4,096 parts.
+ *
+ * A line table is one column of cells, in rows of 44: one for each line class, and one for the end of the text, which is never asked. A
+ * cell is the row that comes next (its value modulo 64), 0x40 where a break is mandatory, 0x80 where one is allowed. EZH_PAIR_TABLE in
+ * ezherbut_codes.h is swash's own.
  *
  * Results. Each function returns a refusal, 0 where there is none, and writes numbers to the results column, which comes last: the
  * refusal, its side and its index in the first three cells, then what the function says below. Cells past those keep their content.
@@ -20,16 +24,17 @@
  * Refusals, in testing order. With any of them no lent column changes but the results column.
  *
  *   9  the results column has fewer cells than the function writes: the results column is left as it was too
- *   4  side neither: the parser or the mode is not of its list
+ *   4  side neither: the parser, the mode or the strength is not of its list
  *   1  a column of the text is longer than 4,096
  *   2  columns of one set differ in length
+ *  10  a line table is not whole rows of 44, has fewer than 45 rows, or has a cell that names a row it has not
  *   3  a scalar above 10FFFF or in D800 to DFFF: side and index say where
  *   4  a code or a mark outside its list: side and index say where
  *   5  a count of parts above 3, or first part plus count above the number of parts: index says where
  *   6  complex parsers: U+034F with a USE class that they look for behind the marks CMAbv of a base (CMBlw, SUB, H, FM,
  *      FAbv, FBlw, FPst, and those that begin with M, VA, VB, VP or VM): side and index say where
  *   7  complex parser with Khmer: an unmarked U+17BE, 17BF, 17C0, 17C4 or 17C5 whose parts are not exactly one, U+17C1
- *   8  the place is neither a token nor the end; for words, a state that is none
+ *   8  the place is neither a token nor the end; for words and lines, a state that is none
  *   9  a column for the answer is too short
  *
  * 3, 4 and 6 are looked for in the parts by rising index, then 3, 4, 5 and 6 in the records by rising index.
@@ -52,7 +57,7 @@ enum {
     /* EZH_SIDE_NEITHER, EZH_SIDE_RECORD or EZH_SIDE_PART */
     EZH_SIDE = 1,
     EZH_INDEX = 2,
-    /* how many cells a check and a word run write */
+    /* how many cells a check, a word run and a run of lines write */
     EZH_CHECK_CELLS = 3,
 };
 
@@ -95,6 +100,30 @@ enum {
     EZH_WORD_ANSWER = 7,
     EZH_WORD_CELLS = 8,
 };
+
+/*
+ * The further cells of ezh_step_line's results: the row after the record, and EZH_BOUNDARY_NONE, EZH_BOUNDARY_LINE or
+ * EZH_BOUNDARY_MANDATORY before it.
+ */
+enum {
+    EZH_LINE_ROW = 3,
+    EZH_LINE_ANSWER = 4,
+    EZH_LINE_CELLS = 5,
+};
+
+/* The further cells of ezh_step_next's results: the states after the record, and one of EZH_BOUNDARY_… before it. */
+enum {
+    EZH_NEXT_ROW = 3,
+    EZH_NEXT_FIRST = 4,
+    EZH_NEXT_PREVIOUS = 5,
+    EZH_NEXT_PREVENT = 6,
+    EZH_NEXT_COUNT = 7,
+    EZH_NEXT_ANSWER = 8,
+    EZH_NEXT_CELLS = 9,
+};
+
+/* The row in which every text starts. */
+enum { EZH_LINE_START = 44 };
 
 /* The parameters of a text, and a text of columns that have one length, written out as these arguments by EZH_TEXT. */
 #define EZH_TEXT_PARAMETERS                                                                                                        \
@@ -172,6 +201,39 @@ uint64_t ezh_run_words(const uint8_t *words, size_t words_count, const uint8_t *
  */
 uint64_t ezh_step_word(uint64_t first, uint64_t previous, uint64_t prevent, uint64_t count, uint64_t word, uint64_t pictograph,
                        const uint8_t *rest, size_t rest_count, uint64_t *results, size_t results_count);
+
+/*
+ * A run of lines: for each record what stands before it, EZH_BOUNDARY_MANDATORY where a line must be broken, EZH_BOUNDARY_LINE where it
+ * may be, else EZH_BOUNDARY_WORD where a word boundary stands, else EZH_BOUNDARY_NONE. The strength is EZH_STRENGTH_NORMAL,
+ * EZH_STRENGTH_BREAKALL (break inside words too) or EZH_STRENGTH_KEEPALL (no break between two of AI, AL, ID, NU, HY, H2, H3, JL, JV, JT, CJ). Results:
+ * EZH_CHECK_CELLS.
+ * Refusals: 9 (results), 4 (strength), 1 and 2 of the columns lines, words and pictographs, 10, 4 of any of the three by rising index,
+ * and 9 where out has fewer cells than there are records.
+ */
+uint64_t ezh_run_lines(uint64_t strength, const uint8_t *table, size_t table_count, const uint8_t *lines, size_t lines_count,
+                       const uint8_t *words, size_t words_count, const uint8_t *pictographs, size_t pictographs_count, uint8_t *out,
+                       size_t out_count, uint64_t *results, size_t results_count);
+
+/*
+ * A line step: a row, the line classes of the records before this one, of which only the last is looked at and none where that column is
+ * empty, and this record's line class. A text starts in row EZH_LINE_START with no class before. Results: EZH_LINE_CELLS.
+ * Refusals: 9 (results), 4 (strength), 10, 4 (record, index 0) for a class outside its list, 8 for a row that the table has not or that
+ * is above 255, or a class before that is outside its list. With a refusal the row is the one given and the answer 0.
+ * Every call judges the whole table anew; a text is better run by ezh_run_lines.
+ */
+uint64_t ezh_step_line(uint64_t strength, const uint8_t *table, size_t table_count, uint64_t row, const uint8_t *before,
+                       size_t before_count, uint64_t line, uint64_t *results, size_t results_count);
+
+/*
+ * One step of both machines: a row and the line classes before as ezh_step_line has them, a word state, one record's line class, word
+ * class and pictograph mark, and the word classes after it as ezh_step_word has them. Results: EZH_NEXT_CELLS.
+ * Refusals: 9 (results), 4 (strength), 10, 4 (record, index 0) for a class or mark outside its list, also of the next record, 8 for a
+ * state of either machine that is none. With a refusal the states are those given and the answer 0.
+ */
+uint64_t ezh_step_next(uint64_t strength, const uint8_t *table, size_t table_count, uint64_t row, const uint8_t *before,
+                       size_t before_count, uint64_t first, uint64_t previous, uint64_t prevent, uint64_t count, uint64_t line,
+                       uint64_t word, uint64_t pictograph, const uint8_t *rest, size_t rest_count, uint64_t *results,
+                       size_t results_count);
 
 #ifdef __cplusplus
 }

@@ -5,9 +5,11 @@ it reads cases from standard input and prints the reading's answers, one line fo
 import argparse
 import re
 import sys
-from functools import lru_cache
+from functools import lru_cache, partial
 
+import line_reading
 import reading
+from line_reading import LineState, Table
 from reading import Part, Record, Refusal, WordState
 
 PARSERS = {"s": "simple", "m": "myanmar", "c": "complex"}
@@ -58,6 +60,11 @@ def word_record(item):
     return tuple(number(code, "u8") for code in fields(item, 2))
 
 
+@lru_cache(maxsize=1 << 16)
+def line_record(item):
+    return tuple(number(code, "u8") for code in fields(item, 3))
+
+
 def items(field, read):
     return [read(item) for item in field.split(" ")] if field else []
 
@@ -72,6 +79,32 @@ def flag(digits):
 def word_state(item):
     first, previous, prevent_next, count = fields(item, 4)
     return WordState(flag(first), number(previous, "u8"), flag(prevent_next), number(count, "u8"))
+
+
+def class_or_none(digits):
+    return None if digits == "-" else number(digits, "u8")
+
+
+def line_state(item):
+    row, previous = fields(item, 2)
+    return LineState(number(row, "u8"), class_or_none(previous))
+
+
+def strength(word):
+    if word not in line_reading.STRENGTHS:
+        raise NotOfLayout
+    return word
+
+
+def run_of_cells(item):
+    """`cell` or `COUNT*cell`; a count of 0 is no cells."""
+    count, star, cell = item.rpartition("*")
+    return bytes([number(cell, "u8")]) * (number(count, "u16") if star else 1)
+
+
+@lru_cache(maxsize=64)
+def table(field):
+    return line_reading.crate_table() if field == "crate" else Table(b"".join(items(field, run_of_cells)))
 
 
 def refusal_line(refusal):
@@ -103,17 +136,20 @@ def full_run_line(answer):
     return f"{clusters} {len(written)}|" + " ".join(["%04X.%d.%d" % cell for cell in written])
 
 
-def word_run_line(answer):
+def run_line(answer):
     if isinstance(answer, Refusal):
         return refusal_line(answer)
     return " ".join(map(str, answer))
 
 
-def word_step_line(state, answer):
-    if isinstance(answer, Refusal):
-        return refusal_line(answer) + ";" + ",".join(map(str, state))
-    boundary, after = answer
-    return f"{boundary};" + ",".join(map(str, after))
+def state_item(state):
+    return ",".join("-" if field is None else str(field) for field in state)
+
+
+def step_line(states, answer):
+    """Of a step with its states, which a refusal hands back."""
+    boundary, *after = (refusal_line(answer), *states) if isinstance(answer, Refusal) else answer
+    return ";".join([str(boundary), *map(state_item, after)])
 
 
 def cluster_answer(kind, mode, script, place, records, parts):
@@ -128,18 +164,44 @@ def cluster_answer(kind, mode, script, place, records, parts):
     return full_run_line(reading.full_run(*text, *rest))
 
 
+def word_run_answer(cells, records):
+    return run_line(reading.word_run(items(records, word_record), number(cells, "u16")))
+
+
+def word_step_answer(state, record_, following):
+    state = word_state(state)
+    return step_line([state], reading.word_step(state, *word_record(record_), class_or_none(following)))
+
+
+def line_step_answer(strength_, table_, state, line_class):
+    state = line_state(state)
+    return step_line([state], line_reading.line_step(strength(strength_), table(table_), state, number(line_class, "u8")))
+
+
+def next_step_answer(strength_, table_, line_state_, word_state_, record_, following):
+    states = line_state(line_state_), word_state(word_state_)
+    given = line_record(record_), class_or_none(following)
+    return step_line(states, line_reading.next_step(strength(strength_), table(table_), *states, *given))
+
+
+def line_run_answer(strength_, table_, cells, records):
+    given = items(records, line_record), number(cells, "u16")
+    return run_line(line_reading.line_run(strength(strength_), table(table_), *given))
+
+
+# each kind with the number of its fields
+ANSWERS = {("W", 2): word_run_answer, ("w", 3): word_step_answer,
+           ("l", 4): line_step_answer, ("n", 6): next_step_answer, ("L", 4): line_run_answer,
+           **{(kind, 5): partial(cluster_answer, kind) for kind in "SMCsmc"}}
+
+
 def answer(line):
     """The answer to one case; raises NotOfLayout."""
     kind, *rest = line.split(";")
-    if kind in ("S", "M", "C", "s", "m", "c") and len(rest) == 5:
-        return cluster_answer(kind, *rest)
-    if kind == "W" and len(rest) == 2:
-        return word_run_line(reading.word_run(items(rest[1], word_record), number(rest[0], "u16")))
-    if kind == "w" and len(rest) == 3:
-        state = word_state(rest[0])
-        next_class = None if rest[2] == "-" else number(rest[2], "u8")
-        return word_step_line(state, reading.word_step(state, *word_record(rest[1]), next_class))
-    raise NotOfLayout
+    answer_of = ANSWERS.get((kind, len(rest)))
+    if not answer_of:
+        raise NotOfLayout
+    return answer_of(*rest)
 
 
 def is_skipped(line):

@@ -11,7 +11,7 @@ import laws
 import real_labels
 import unicode
 
-KINDS = "SMCWwsmc"
+KINDS = "SMCWwsmclnL"
 CHUNK = 20_000
 CLUSTER_PARTS = ("S", "M", "C", "exhaustive-S", "exhaustive-M", "exhaustive-C", "ordered-M", "ordered-C", "places")
 RUN_PARTS = ("runs-s", "runs-m", "runs-c", "runs-khmer", "split-runs", "damaged-runs")

@@ -2,8 +2,8 @@
 """Which blocks of the unchanged Rust files the cases take.
 
 A block is one that LLVM makes without optimisation: each arm of a match and each failure of a
-`?` is one of its own. Prints, for each file, how many of the blocks that the parsers and
-`check_word` have are taken, and the lines of the others.
+`?` is one of its own. Prints, for each file, how many of the blocks that the parsers, `check_word`,
+`check_line` and `next` have are taken, and the lines of the others.
 """
 
 import argparse
@@ -17,6 +17,7 @@ import programs
 import rust_judge
 
 FILES = ("simple.rs", "myanmar.rs", "complex.rs", "analyze.rs")
+OF_ANALYZE = ("BoundaryState::check_word", "BoundaryState::check_line", "BoundaryState::next")
 
 
 class Coverage:
@@ -39,7 +40,7 @@ class Coverage:
         for block, (function, place) in enumerate(zip(lines[::2], lines[1::2])):
             file, _, line = re.sub(r" \(.*", "", place).rpartition(":")
             name = pathlib.PurePath(file).name
-            if name in FILES and (name != "analyze.rs" or "check_word" in function):
+            if name in FILES and (name != "analyze.rs" or any(asked in function for asked in OF_ANALYZE)):
                 places[block] = name, line
         return places
 

@@ -1,7 +1,7 @@
 #!/usr/bin/env python3
 """Do the fixed lists notice a wrong reading? Each mutant has one name, one number or one test
-of reading.py changed; the lists have to answer otherwise in some line. Prints each mutant that no
-list notices, and the count.
+of reading.py or line_reading.py changed; the lists have to answer otherwise in some line. Prints each
+mutant that no list notices, and the count.
 """
 
 import argparse
@@ -11,6 +11,7 @@ import resource
 import signal
 
 import cases
+import line_reading
 import lists
 import reading
 
@@ -45,33 +46,47 @@ def change(node):
         node.value += " changed"
 
 
-def unchanged():
-    return ast.parse((HERE / "reading.py").read_text())
+# in the order in which they are loaded, each with the types that the layout has under their own names too
+MODULES = {reading: ("Part", "Record", "Refusal", "WordState"), line_reading: ("LineState", "Table")}
 
 
-def program(tree):
-    return compile(ast.fix_missing_locations(tree), "reading.py", "exec")
+def file_name(module):
+    return f"{module.__name__}.py"
+
+
+def unchanged(module):
+    return ast.parse((HERE / file_name(module)).read_text())
+
+
+def program(tree, module):
+    return compile(ast.fix_missing_locations(tree), file_name(module), "exec")
+
+
+def reading_itself():
+    return {module: program(unchanged(module), module) for module in MODULES}
 
 
 def mutants():
-    for number in range(len(list(sites(unchanged())))):
-        mutant = unchanged()
-        changed = list(sites(mutant))[number]
-        before = ast.unparse(changed)
-        change(changed)
-        yield changed.lineno, before, program(mutant)
+    """Each change in words, and the modules' programs with it."""
+    for module in MODULES:
+        for number in range(len(list(sites(unchanged(module))))):
+            mutant = unchanged(module)
+            changed = list(sites(mutant))[number]
+            before = f"{file_name(module)}:{changed.lineno}: {ast.unparse(changed)}"
+            change(changed)
+            yield before, reading_itself() | {module: program(mutant, module)}
 
 
 def of_layout():
     return [(line, answer) for line, answer in lists.pairs() if answer[:1] != "?"]
 
 
-def take_place(code):
-    """The layout has the reading's types under their own names too."""
-    exec(code, reading.__dict__)
-    for name in ("Part", "Record", "Refusal", "WordState"):
-        setattr(cases, name, getattr(reading, name))
-    for cached in (cases.record, cases.part):
+def take_place(programs):
+    for module, names in MODULES.items():
+        exec(programs[module], module.__dict__)
+        for name in names:
+            setattr(cases, name, getattr(module, name))
+    for cached in (cases.record, cases.part, cases.table):
         cached.cache_clear()
 
 
@@ -79,11 +94,11 @@ def out_of_time(*_):
     raise TimeoutError
 
 
-def is_noticed(code, pairs):
+def is_noticed(programs, pairs):
     """The mutant's functions take the reading's place; anything that goes wrong is noticed."""
     signal.alarm(SECONDS)
     try:
-        take_place(code)
+        take_place(programs)
         return any(cases.answer(line) != answer for line, answer in pairs)
     except Exception:
         return True
@@ -96,13 +111,13 @@ def main():
     signal.signal(signal.SIGALRM, out_of_time)
     resource.setrlimit(resource.RLIMIT_AS, (BYTES, BYTES))
     pairs = of_layout()
-    assert not is_noticed(program(unchanged()), pairs), "the unchanged reading has to agree"
+    assert not is_noticed(reading_itself(), pairs), "the unchanged reading has to agree"
     made = missed = 0
-    for line, before, code in mutants():
+    for before, programs in mutants():
         made += 1
-        if not is_noticed(code, pairs):
+        if not is_noticed(programs, pairs):
             missed += 1
-            print(f"reading.py:{line}: {before} is not noticed", flush=True)
+            print(f"{before} is not noticed", flush=True)
     print(f"{made} mutants, {missed} not noticed")
 
 

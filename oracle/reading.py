@@ -618,12 +618,17 @@ NEWLINES = ("CR", "LF", "NL")
 IGNORED = ("Extend", "FO", "ZWJ")
 
 
+def is_word_state(state):
+    """Against 8."""
+    return state.previous < len(WORD) and state.count <= 2
+
+
 def word_step(state, record_class, pictograph, next_class):
     """A refusal, or the answer and the next state. `next_class` is None at the last record."""
     classes = [record_class] + ([] if next_class is None else [next_class])
     if any(code >= len(WORD) for code in classes) or pictograph >= len(MARK):
         return Refusal(4, 0, "r")
-    if state.previous >= len(WORD) or state.count > 2:
+    if not is_word_state(state):
         return Refusal(8)
     return checked_word_step(state, record_class, pictograph, next_class)
 

@@ -17,7 +17,27 @@ FILES = {
 0300..0301 ; Extend
 0030..0039 ; Numeric
 """,
-    "emoji/emoji-data.txt": "1F600..1F602 ; Extended_Pictographic\n",
+    "LineBreak.txt": """000A;LF # Cc
+000D;CR
+0020;SP
+0025;PO
+0029;CP
+002C;IS
+0030..0039;NU
+0041..0043;AL # some letters
+0300..0301;CM
+2024;IN
+2329;OP
+1F02C..1F02F;ID # Cn
+1F3FB..1F3FF;EM
+1F600..1F602;ID
+""",
+    "EastAsianWidth.txt": """0041..0043;Na
+2329;W
+""",
+    "emoji/emoji-data.txt": """1F02C ; Extended_Pictographic
+1F600..1F602 ; Extended_Pictographic
+""",
     "PropList.txt": "FE00..FE0F ; Variation_Selector\n",
     "IndicSyllabicCategory.txt": "1003 ; Consonant\n",
     "UnicodeData.txt": """000D;<control>;Cc;0;B;;;;;N;CARRIAGE RETURN (CR);;;;
@@ -31,6 +51,13 @@ FILES = {
 """,
     "auxiliary/WordBreakTest.txt": """÷ 0041 × 0030 × 0042 ÷\t# letters and a digit
 ÷ 0021 ÷ 0041 ÷
+""",
+    "auxiliary/LineBreakTest.txt": """× 0041 × 0020 ÷ 1F600 ÷\t# × [0.3] a letter, a space, an ideograph
+× 000D × 000A ÷ 0041 × 0025 ÷
+× 0041 × 0300 ÷ 2329 ÷\t# the four entries
+× 0041 × 0029 × 0300 × 2024 ÷
+× 002C ÷ 0030 ÷
+× 1F02C × 1F3FF ÷
 """,
 }
 

@@ -66,6 +66,12 @@ class Parts(unittest.TestCase):
         sizes = self.sizes("--short", "--runs", "7")
         self.assertEqual((sizes["runs-s"][0], sizes["S"][0]), (7, 10_000))
 
+    def test_line_breaks(self):
+        sizes = self.sizes("--short", "--lines", "7")
+        self.assertEqual([sizes[part][0] for part in ("l", "n", "L", "S")], [7, 7, 7, 10_000])
+        self.assertEqual(len(sizes["exhaustive-l"]), 1)
+        self.assertEqual(self.sizes()["n"][0], 200_000)
+
 
 class Sources(unittest.TestCase):
     def setUp(self):

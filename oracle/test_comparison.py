@@ -22,6 +22,8 @@ KINZI_RUN = KINZI.replace("M;crate;-;0", "m;crate;-;6")
 RUN = generate.case("s", 2, [generate.SIMPLE_KINDS[0]])
 REFUSED_RUN = RUN.replace("s;crate;-;2", "s;crate;-;1")
 WORDS = "W;4;2,0 18,0 18,0 18,0"
+LINES = "L;Normal;crate;3;1,8,0 37,7,0 1,8,0"
+LINE_STEP = "l;Normal;1935*0;44,-;1"
 
 
 def rust(lines):
@@ -62,6 +64,7 @@ class Parts(unittest.TestCase):
         self.assertEqual(output, "S: 6 cases, 2 by the Rust, 1 refused, 3 whole\n")
         self.compare(judges, "M", KINZI)
         self.compare(judges, "W", WORDS)
+        self.assertEqual(self.compare(judges, "L", LINES, LINE_STEP), (2, "L: 2 cases, 1 by the Rust, 1 refused, 0 whole\n"))
         self.compare(judges, "layout", "S;crate", "# skipped", "", TEXT)
         count, output = self.compare(judges, "runs-s", RUN, REFUSED_RUN, KINZI_RUN)
         self.assertEqual((count, judges.differences), (6, 0))
@@ -72,6 +75,8 @@ class Parts(unittest.TestCase):
         self.assert_differs(judges, "S", TEXT, "the reading against the Rust", f"case     {TEXT}",
                             "expected 1|0>1:0061.2.0.0:n0061..", "given    1|0>1:0061.0.0.0:n0061..")
         self.assert_differs(Comparison(changed(rust, WORDS, "1 0 1 0")), "W", WORDS, "the reading against the Rust")
+        self.assert_differs(Comparison(changed(rust, LINES, "1 1 3")), "L", LINES, "the reading against the Rust")
+        self.assert_differs(Comparison(changed(rust, LINE_STEP, "0;0,1")), "l", LINE_STEP, "given    -")
 
     def test_one_of_them_refuses(self):
         self.assert_differs(Comparison(changed(rust, TEXT, "-")), "S", TEXT, "expected -")
@@ -95,7 +100,8 @@ class Parts(unittest.TestCase):
                 self.assert_differs(Comparison(rust), name, line, "a law of whole mode")
 
     def test_a_third_program(self):
-        for name, line in (("S", TEXT), ("M", KINZI), ("W", WORDS), ("runs-s", RUN), ("S", REFUSED), ("runs-s", REFUSED_RUN)):
+        for name, line in (("S", TEXT), ("M", KINZI), ("W", WORDS), ("L", LINES), ("l", LINE_STEP), ("runs-s", RUN), ("S", REFUSED),
+                           ("runs-s", REFUSED_RUN)):
             with self.subTest(line):
                 self.assert_differs(Comparison(rust, changed(third, line, "wrong")), name, line,
                                     "the program against the judges", "given    wrong")
@@ -143,7 +149,7 @@ class Published(unittest.TestCase):
     def test_a_line_that_differs(self):
         folder = small_unicode.folder(self)
         judges = Comparison(rust)
-        self.assertEqual(printed(comparison.compare_unicode, judges, folder)[0], 5)
+        self.assertEqual(printed(comparison.compare_unicode, judges, folder)[0], 11)
         self.assertEqual(judges.differences, 0)
         file = folder / "auxiliary/WordBreakTest.txt"
         file.write_text(file.read_text().replace("÷ 0021 ÷ 0041", "÷ 0021 × 0041"))

@@ -13,10 +13,10 @@ PLACES = """parse
 /src/text/cluster/simple.rs:10
 parse
 /src/text/cluster/simple.rs:10 (discriminator 2)
-check_word
-/src/text/analyze.rs:200
-check_line
+oracle::text::words::BoundaryState::check_line
 /src/text/analyze.rs:300
+oracle::text::words::BoundaryState::new
+/src/text/analyze.rs:70
 main
 /src/main.rs:5
 """
@@ -32,7 +32,7 @@ class Blocks(unittest.TestCase):
             self.taken = list(self.coverage.blocks(["one", "two", "three"]))
 
     def test_which_blocks_count(self):
-        self.assertEqual(self.coverage.places, {0: ("simple.rs", "10"), 1: ("simple.rs", "10"), 2: ("analyze.rs", "200")})
+        self.assertEqual(self.coverage.places, {0: ("simple.rs", "10"), 1: ("simple.rs", "10"), 2: ("analyze.rs", "300")})
 
     def test_what_each_case_takes(self):
         self.assertEqual(self.taken, [{0}, set(), {0, 1}])
@@ -41,7 +41,7 @@ class Blocks(unittest.TestCase):
         _, output = printed(coverage.report, self.coverage, {0})
         self.assertEqual(output.splitlines(), [
             "simple.rs: 1 of 2 blocks; not taken, by line: 10×1", "myanmar.rs: 0 of 0 blocks", "complex.rs: 0 of 0 blocks",
-            "analyze.rs: 0 of 1 blocks; not taken, by line: 200×1"])
+            "analyze.rs: 0 of 1 blocks; not taken, by line: 300×1"])
         _, output = printed(coverage.report, self.coverage, {0, 1, 2})
         self.assertNotIn("not taken", output)
 

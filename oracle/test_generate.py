@@ -7,6 +7,8 @@ import unittest
 import cases
 import generate
 import laws
+import line_cases
+import line_reading
 import reading
 
 COUNT = 100
@@ -25,7 +27,7 @@ def refusal_numbers(lines):
 
 class Layout(unittest.TestCase):
     def test_every_part_but_one_is_of_the_layout(self):
-        for part in {*generate.RANDOM, *generate.FIXED} - {"layout", "long"}:
+        for part in {*generate.RANDOM, *generate.FIXED} - {"layout", "line-layout", "long"}:
             for line in some(part):
                 with self.subTest(part, line=line[:200]):
                     cases.answer(line)
@@ -72,6 +74,22 @@ class Meant(unittest.TestCase):
         for part in "SMC":
             with self.subTest(part):
                 self.assertFalse(all(laws.is_ordinary(cases.answer(line)) for line in some(part)))
+
+    def test_line_breaks(self):
+        self.assertEqual(refusal_numbers(line_cases.refusals()), {4, 8, 9, 10})
+        self.assertEqual({cases.answer(line) for line in line_cases.long_cases() if line.count(" ") == reading.LONGEST}, {"R 1 0 -"})
+        steps = set(line_cases.exhaustive_steps())
+        self.assertEqual(len(steps), 3 * 53 * 44 * 43)
+        answers = [cases.answer(line) for line in some("L") if line.split(";")[2] == "crate"]
+        self.assertEqual({sign for answer in answers if answer[:1] != "R" for sign in answer.split()}, set("0123"))
+
+    def test_random_tables_of_every_sort(self):
+        tables = {line.split(";")[2] for line in generate.generate("l", 1, 2_000)}
+        self.assertIn("crate", tables)
+        self.assertIn("", tables)
+        read = [cases.table(table) for table in tables]
+        self.assertLessEqual({45, 64, 94}, {table.rows for table in read if table.is_sound})
+        self.assertTrue(any(not table.is_sound and len(table.cells) % line_reading.WIDTH == 0 and table.rows >= 45 for table in read))
 
     def test_every_word_step_once(self):
         steps = list(generate.word_steps())

@@ -7,6 +7,8 @@ import unittest
 from unittest import mock
 
 import cases
+import line_cases
+import line_reading
 import lists
 import loading
 import mutants
@@ -39,6 +41,17 @@ class Replay(unittest.TestCase):
         self.assertTrue(output.startswith("DIFFERS: 3 answers to "), output)
 
 
+class Order(unittest.TestCase):
+    def test_what_stands_in_the_lists_keeps_its_place(self):
+        with mock.patch("lists.pairs", lambda: [("b", "1"), ("a", "2"), ("b", "1"), ("c", "3")]):
+            kept = lists.keeping_places([("new", "5"), ("a", "2"), ("b", "1"), ("c", "4"), ("newer", "6"), ("b", "1")])
+        self.assertEqual([line for line, _ in kept], ["b", "a", "b", "c", "new", "newer"])
+
+    def test_the_corners_of_line_breaks_are_chosen(self):
+        chosen = loading.command("oracle/make-lists").line_breaks()
+        self.assertLessEqual({line for line, _ in line_cases.corners()}, set(chosen))
+
+
 class Mutants(unittest.TestCase):
     def test_one_change_at_each_site(self):
         source = 'def f(a):\n    """Says."""\n    return a == 1 or a in ("x", True) or a < 2\n'
@@ -57,11 +70,12 @@ class Mutants(unittest.TestCase):
             "return a == 1 or a in ('x', True) or a < 3"]))
 
     def test_a_wrong_answer_is_noticed(self):
-        unchanged = mutants.program(mutants.unchanged())
+        unchanged = mutants.reading_itself()
         # a mutant takes the reading's place for good; the other tests want the reading back
-        with mock.patch.dict(vars(reading)), mock.patch.dict(vars(cases)):
-            self.assertFalse(mutants.is_noticed(unchanged, [("W;1;0,0", "1")]))
+        with mock.patch.dict(vars(reading)), mock.patch.dict(vars(line_reading)), mock.patch.dict(vars(cases)):
+            self.assertFalse(mutants.is_noticed(unchanged, [("W;1;0,0", "1"), ("l;Normal;;0,0;0", "R 10 0 -;0,0")]))
             self.assertTrue(mutants.is_noticed(unchanged, [("W;1;0,0", "0")]))
+            self.assertTrue(mutants.is_noticed(unchanged, [("l;Normal;crate;44,-;1", "2;1,1")]))
 
 
 if __name__ == "__main__":

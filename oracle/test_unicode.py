@@ -31,6 +31,19 @@ class Published(unittest.TestCase):
         self.assertEqual(line.marks, [0, 0, 1, 0, 1])
         self.assertEqual(self.words[0].kinds, ["ALetter", "NU", "ALetter"])
 
+    def test_lines_that_are_wrapped(self):
+        lines = unicode.wrapped_lines(self.folder)
+        self.assertEqual(lines[0].stated, [0, 0, 1])
+        self.assertEqual(unicode.wrapped_case(lines[0]), "L;Normal;crate;3;1,8,0 37,0,0 20,0,1")
+        self.assertEqual(lines[2].is_wide, [False, False, True])
+        self.assertEqual([line.is_unassigned_pictograph[0] for line in lines], [False] * 5 + [True])
+
+    def test_what_stands_before_by_the_rules(self):
+        line = unicode.wrapped_lines(self.folder)[0]
+        for kinds, seen in (("CP CM ZWJ IN", "CP"), ("SP CM OP", "AL"), ("CM OP", "AL"), ("CJ NU", "NS"), ("XX CM OP", "AL"), ("SP OP", "SP")):
+            line.kinds = kinds.split()
+            self.assertEqual(unicode.seen_before(line, len(line.kinds) - 1), seen, kinds)
+
     def test_plain(self):
         self.assertEqual([unicode.is_plain_cluster(line) for line in self.clusters], [True, True, False])
         self.assertEqual([unicode.is_plain_word(line) for line in self.words], [True, True])
@@ -49,9 +62,13 @@ class Published(unittest.TestCase):
         self.assertIn("GraphemeBreakTest: 3 lines, 2 of them plain; 2 agree, 1 differ", output)
         self.assertIn("    1 one RI a cluster", output)
         self.assertIn("WordBreakTest: 2 lines, 2 of them plain; 2 agree, 0 differ", output)
+        self.assertIn("LineBreakTest: 6 lines; 2 agree, 4 differ", output)
+        for entry in unicode.LINE_ENTRIES:
+            self.assertIn(f"    1 {entry}\n", output)
 
     def test_differences_without_an_entry(self):
-        for change in ((0, "|2>3:", "|1>3:"), (1, "|2>5:", "|3>5:"), (3, "1 0 0", "1 0 1"), (4, "1 1", "1 0")):
+        for change in ((0, "|2>3:", "|1>3:"), (1, "|2>5:", "|3>5:"), (3, "1 0 0", "1 0 1"), (4, "1 1", "1 0"), (5, "1 1 2", "1 2 2"),
+                       (6, "1 0 3", "1 0 1"), (7, "1 0", "2 0"), (8, "1 1", "1 2")):
             with self.subTest(change):
                 status, output = self.answers(change)
                 self.assertEqual(status, 1)

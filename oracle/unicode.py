@@ -1,8 +1,9 @@
 #!/usr/bin/env python3
-"""The published break test files of Unicode 15.0 as cases, and a checker of answers to them.
+"""The published break test files of Unicode 15.0 as cases, and a checker of answers to them:
+GraphemeBreakTest, WordBreakTest and LineBreakTest.
 
-A line that is a plain text (SCOPE 8.1) must agree; any other may differ where an
-entry of the known differences says so. Counts the lines for each entry; fails where a difference
+A line that is a plain text (SCOPE 8.1, of clusters and words) must agree; any other may differ where
+an entry of the known differences says so. Counts the lines for each entry; fails where a difference
 has none.
 """
 
@@ -15,13 +16,15 @@ import sys
 import laws
 import programs
 from generate import case, record, word_case
+from line_cases import run_case
+from line_reading import LINE, LINE_BREAK
 from reading import WORD
 
 # the tools read Unicode's files too, in the folder beside this one
 sys.path.append(str(pathlib.Path(__file__).resolve().parent.parent / "tools"))
 import property_files
 
-FOLDER_HELP = "has the files of Unicode 15.0 as Debian's unicode-data lays them out: auxiliary/ and emoji/"
+FOLDER_HELP = "has the files of Unicode 15.0 as Debian's unicode-data lays them out: LineBreak.txt, auxiliary/, emoji/ and so on"
 
 
 # ---- The published files --------------------------------------------------------------------
@@ -51,6 +54,25 @@ def test_lines(folder):
             published(folder, "WordBreakTest", property_files.word_breaks(folder), "Other", marks))
 
 
+class WrappedLine(Line):
+    """A line of LineBreakTest, with what LB30 and LB30b look at besides the class."""
+
+    def __init__(self, text, values, words, marks, wide, assigned):
+        super().__init__(text, values, "XX", marks)
+        self.words = [words.get(scalar, "Other") for scalar in self.scalars]
+        self.is_wide = [scalar in wide for scalar in self.scalars]
+        self.is_unassigned_pictograph = [bool(mark) and scalar not in assigned
+                                         for scalar, mark in zip(self.scalars, self.marks)]
+
+
+def wrapped_lines(folder):
+    """The lines of LineBreakTest; a class is what LineBreak.txt says, not resolved by LB1: that is
+    the table's part."""
+    properties = (property_files.line_breaks(folder), property_files.word_breaks(folder), property_files.pictographs(folder),
+                  property_files.wide(folder), property_files.general_categories(folder))
+    return [WrappedLine(text, *properties) for text in property_files.lines(folder, "auxiliary/LineBreakTest.txt")]
+
+
 def cluster_case(line):
     return case("S", 0, [record(scalar, kind, simple=mark, pictograph=mark)
                          for scalar, kind, mark in zip(line.scalars, line.kinds, line.marks)])
@@ -60,6 +82,11 @@ def words_case(line):
     return word_case([f"{WORD.index(kind)},{mark}" for kind, mark in zip(line.kinds, line.marks)])
 
 
+def wrapped_case(line):
+    return run_case([f"{LINE.index(kind)},{WORD.index(word)},{mark}"
+                     for kind, word, mark in zip(line.kinds, line.words, line.marks)])
+
+
 def cluster_boundaries(line, answer):
     starts = {int(laws.CALL.match(call)[1]) for call in answer.split("|")[1:]}
     return [int(at in starts) for at in range(len(line.scalars))]
@@ -67,6 +94,10 @@ def cluster_boundaries(line, answer):
 
 def word_boundaries(_, answer):
     return [int(sign) for sign in answer.split(" ")]
+
+
+def line_breaks(_, answer):
+    return [int(int(sign) >= LINE_BREAK) for sign in answer.split(" ")]
 
 
 # ---- Plain texts (SCOPE 8.1) ----------------------------------------------------------------
@@ -208,6 +239,50 @@ WORD_ENTRIES = {
 }
 
 
+# LB1, as the crate's table has it
+RESOLVED = {"AI": "AL", "SG": "AL", "XX": "AL", "SA": "AL", "CJ": "NS"}
+NOTHING_ATTACHES = ("BK", "CR", "LF", "NL", "SP", "ZW")
+
+
+def seen_before(line, at):
+    """The class before `at` as the rules from LB11 on see it: by LB9 what CM and ZWJ are attached to,
+    by LB10 AL where there is nothing that they attach to."""
+    back = at - 1
+    while back >= 0 and line.kinds[back] in ("CM", "ZWJ"):
+        back -= 1
+    if back < at - 1 and (back < 0 or line.kinds[back] in NOTHING_ATTACHES):
+        return "AL"
+    return RESOLVED.get(line.kinds[back], line.kinds[back])
+
+
+def wide_opening(line, at, stated):
+    return stated and line.kinds[at] == "OP" and line.is_wide[at] and seen_before(line, at) in ("AL", "HL", "NU")
+
+
+def before_inseparable(line, at, stated):
+    return not stated and line.kinds[at] == "IN"
+
+
+# of LB25 as it stands, without the file's tailoring
+NUMBER_PAIRS = {("IS", "NU"), ("SY", "NU"), ("CL", "PO"), ("CP", "PO"), ("CL", "PR"), ("CP", "PR"), ("PO", "OP"), ("PR", "OP")}
+
+
+def number_without_digits(line, at, stated):
+    return stated and (seen_before(line, at), line.kinds[at]) in NUMBER_PAIRS
+
+
+def modifier_of_unassigned(line, at, stated):
+    return not stated and line.kinds[at] == "EM" and line.is_unassigned_pictograph[at - 1]
+
+
+LINE_ENTRIES = {
+    "LB30: a wide OP after AL, HL, NU": wide_opening,
+    "LB22: before IN": before_inseparable,
+    "LB25 as the file tailors it: before NU, PO, PR, OP": number_without_digits,
+    "LB30b: EM after an unassigned pictograph": modifier_of_unassigned,
+}
+
+
 # ---- The checker ----------------------------------------------------------------------------
 
 
@@ -219,15 +294,18 @@ def entries_of(line, given, entries):
 
 
 def check(title, lines, answers, boundaries, is_plain, entries):
-    counts, faults, plain = collections.Counter(), [], 0
+    """The number of faults. Of lines that are wrapped none is plain: `is_plain` is None."""
+    counts, faults = collections.Counter(), []
     for line, answer in zip(lines, answers, strict=True):
         found = list(entries_of(line, boundaries(line, answer), entries))
-        plain += is_plain(line)
+        plain = bool(is_plain and is_plain(line))
+        counts["plain"] += plain
         counts["agree" if not found else "differ"] += 1
         counts.update({name for _, name in found})
-        if found and (is_plain(line) or any(name is None for _, name in found)):
+        if found and (plain or any(name is None for _, name in found)):
             faults.append((line, found))
-    print(f"{title}: {len(lines)} lines, {plain} of them plain; {counts['agree']} agree, {counts['differ']} differ")
+    of_plain = f", {counts['plain']} of them plain" if is_plain else ""
+    print(f"{title}: {len(lines)} lines{of_plain}; {counts['agree']} agree, {counts['differ']} differ")
     for name in entries:
         print(f"  {counts[name]:5} {name}")
     for line, found in faults:
@@ -237,15 +315,16 @@ def check(title, lines, answers, boundaries, is_plain, entries):
 
 def check_all(folder, answers):
     clusters, words = test_lines(folder)
-    faults = check("GraphemeBreakTest", clusters, answers[:len(clusters)], cluster_boundaries, is_plain_cluster,
-                   CLUSTER_ENTRIES)
-    faults += check("WordBreakTest", words, answers[len(clusters):], word_boundaries, is_plain_word, WORD_ENTRIES)
+    first_word, first_wrapped = len(clusters), len(clusters) + len(words)
+    faults = check("GraphemeBreakTest", clusters, answers[:first_word], cluster_boundaries, is_plain_cluster, CLUSTER_ENTRIES)
+    faults += check("WordBreakTest", words, answers[first_word:first_wrapped], word_boundaries, is_plain_word, WORD_ENTRIES)
+    faults += check("LineBreakTest", wrapped_lines(folder), answers[first_wrapped:], line_breaks, None, LINE_ENTRIES)
     return 1 if faults else 0
 
 
 def all_cases(folder):
     clusters, words = test_lines(folder)
-    return [*map(cluster_case, clusters), *map(words_case, words)]
+    return [*map(cluster_case, clusters), *map(words_case, words), *map(wrapped_case, wrapped_lines(folder))]
 
 
 def parse_options(description, **actions):
@@ -262,7 +341,7 @@ def parse_options(description, **actions):
 
 
 def main():
-    options = parse_options(__doc__, cases="prints S lines, then W lines",
+    options = parse_options(__doc__, cases="prints S lines, then W lines, then L lines",
                             check="says of each answer in standard input whether it agrees with the file",
                             run="both at once, with a program that reads cases and prints answers")
     if options.action == "cases":

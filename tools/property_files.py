@@ -57,5 +57,14 @@ def word_breaks(folder):
     return values(folder, "auxiliary/WordBreakProperty.txt", WORD_NAMES)
 
 
+def line_breaks(folder):
+    return values(folder, "LineBreak.txt")
+
+
+def wide(folder):
+    """The scalars whose East Asian width is F, W or H."""
+    return {scalar for scalars, value in rows(folder, "EastAsianWidth.txt") if value in ("F", "W", "H") for scalar in scalars}
+
+
 def pictographs(folder):
     return having(folder, "emoji/emoji-data.txt", "Extended_Pictographic")

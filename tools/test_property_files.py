@@ -36,6 +36,10 @@ class PropertyFiles(unittest.TestCase):
         (self.folder / "auxiliary/GraphemeBreakProperty.txt").write_text(BREAKS)
         self.assertEqual(property_files.grapheme_breaks(self.folder), {0x0D: "CR", 0x300: "EX", 0x301: "EX", 0x302: "EX", 0x903: "SM"})
 
+    def test_widths_that_count_as_wide(self):
+        (self.folder / "EastAsianWidth.txt").write_text("0020;Na # Zs\n20A9;H\n2329..232A;W # Ps..Pe\n00A1;A\nFF08;F\n")
+        self.assertEqual(property_files.wide(self.folder), {0x20A9, 0x2329, 0x232A, 0xFF08})
+
     def test_a_compressed_file_is_the_same(self):
         (self.folder / "auxiliary/GraphemeBreakProperty.txt.bz2").write_bytes(bz2.compress(BREAKS.encode()))
         self.assertEqual(len(property_files.grapheme_breaks(self.folder)), 5)

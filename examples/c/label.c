@@ -1,6 +1,6 @@
 /*
  * The story's label, U+1004 U+103A U+1039, a Myanmar kinzi at the end of the text, in both modes; then the same label with a class that
- * is in no list, and other calls that are refused.
+ * is in no list, and other calls that are refused; then words and lines.
  */
 #include <stdio.h>
 
@@ -102,6 +102,27 @@ static void print_words(void) {
     }
 }
 
+/* "a b": a line may be broken before the second letter. Then a strength that is none, and a table that lacks its last cell. */
+static void print_lines(void) {
+    const uint8_t lines[3] = {EZH_LINE_AL, EZH_LINE_SP, EZH_LINE_AL};
+    const uint8_t words[3] = {EZH_WORD_ALETTER, EZH_WORD_WSEGSPACE, EZH_WORD_ALETTER};
+    const size_t cells = sizeof EZH_PAIR_TABLE;
+    uint8_t out[3];
+    uint64_t results[EZH_CHECK_CELLS];
+    for (uint64_t strength = EZH_STRENGTH_NORMAL; strength <= EZH_STRENGTH_KEEPALL + 1; strength++) {
+        uint64_t refusal =
+            ezh_run_lines(strength, EZH_PAIR_TABLE, cells, lines, 3, words, 3, zeros, 3, out, 3, results, EZH_CHECK_CELLS);
+        if (refusal != 0) {
+            printf("lines, strength %d: refused %d, side %d\n", (int)strength, (int)refusal, (int)results[EZH_SIDE]);
+        } else {
+            printf("lines, strength %d: %d %d %d\n", (int)strength, out[0], out[1], out[2]);
+        }
+    }
+    uint64_t refusal =
+        ezh_run_lines(EZH_STRENGTH_NORMAL, EZH_PAIR_TABLE, cells - 1, lines, 3, words, 3, zeros, 3, out, 3, results, EZH_CHECK_CELLS);
+    printf("a table without its last cell: refused %d\n", (int)refusal);
+}
+
 int main(void) {
     const uint8_t kinzi[RECORDS] = {EZH_MYANMAR_C, EZH_MYANMAR_AS, EZH_MYANMAR_H};
     const uint8_t unlisted[RECORDS] = {EZH_MYANMAR_C, EZH_MYANMAR_AS, EZH_MYANMAR_REST + 1};
@@ -112,5 +133,6 @@ int main(void) {
     print_clusters("a class outside its list, whole", EZH_WHOLE, label(unlisted));
     print_refusals(label(kinzi));
     print_words();
+    print_lines();
     return 0;
 }

@@ -1,15 +1,16 @@
-//! The full run with its check, the stepping calls and the word run of the proved library beside the Rust parsers of swash
+//! The full run with its check, the stepping calls, the word run and the run of lines of the proved library beside the Rust of swash
 //! 0.2.10, in one process, over the same texts. Prints one line for each text, size and sort of call.
 //!
-//!     bench FOLDER-OF-TEXTS ROUNDS
-//!     bench FOLDER-OF-TEXTS TEXT SIZE run|steps|words ours|rust TIMES    only calls one side, so that its instructions can be counted
+//!     bench FOLDER-OF-TEXTS ROUNDS [run|steps|words|lines]..             all sorts of call, or these
+//!     bench FOLDER-OF-TEXTS TEXT SIZE run|steps|words|lines ours|rust TIMES    only calls one side, so that its instructions can be counted
 
 #![allow(dead_code, unused_imports)] // the shims name more than this program needs.
 
 mod sample;
 mod text;
 
-use ezherbut::{Mode, Parser};
+use ezherbut::codes::PAIR_TABLE;
+use ezherbut::{Mode, Parser, Strength};
 use sample::Sample;
 use std::hint::black_box;
 use std::time::Instant;
@@ -107,6 +108,22 @@ fn rust_words(sample: &Sample, out: &mut Out) -> usize {
     sample.words.len()
 }
 
+/// The answers of `next`: lines and words.
+fn our_lines(sample: &Sample, out: &mut Out) -> usize {
+    let columns = sample.text.columns();
+    let (words, pictographs) = (columns.words, columns.pictographs);
+    let run = ezherbut::line_run(&sample.lines, words, pictographs, &PAIR_TABLE, Strength::Normal, &mut out.classes);
+    run.expect("accepted lines");
+    sample.lines.len()
+}
+
+fn rust_lines(sample: &Sample, out: &mut Out) -> usize {
+    for (cell, answer) in out.classes.iter_mut().zip(words::run_both(&sample.both)) {
+        *cell = answer as u8;
+    }
+    sample.lines.len()
+}
+
 type Side = fn(&Sample, &mut Out) -> usize;
 
 /// Nanoseconds a record of some repetitions.
@@ -160,24 +177,31 @@ fn agree(sample: &Sample) {
         n == rust_words(sample, &mut two) && one.written(n).1 == two.written(n).1,
         "the words differ"
     );
+    let n = our_lines(sample, &mut one);
+    assert!(
+        n == rust_lines(sample, &mut two) && one.written(n).1 == two.written(n).1,
+        "the lines differ"
+    );
 }
 
-const SIDES: [(&str, Side, Side); 3] = [
+const SIDES: [(&str, Side, Side); 4] = [
     ("run", our_run, rust_run),
     ("steps", our_steps, rust_steps),
     ("words", our_words, rust_words),
+    ("lines", our_lines, rust_lines),
 ];
 
 fn sample(folder: &str, name: &str, size: usize) -> Sample {
-    Sample::of(&std::fs::read_to_string(format!("{folder}/{name}.txt")).expect("a text"), size)
+    let read = |name: &str| std::fs::read_to_string(format!("{folder}/{name}.txt")).expect("a file of the folder");
+    Sample::of(&read(name), &read("line-classes"), size)
 }
 
-fn measure(folder: &str, rounds: usize) {
+fn measure(folder: &str, rounds: usize, only: &[&str]) {
     for name in ["english", "myanmar", "hindi", "khmer", "emoji"] {
         for size in SIZES {
             let sample = sample(folder, name, size);
             agree(&sample);
-            for (what, ours, rust) in SIDES {
+            for (what, ours, rust) in SIDES.into_iter().filter(|one| only.is_empty() || only.contains(&one.0)) {
                 compare(name, what, &sample, ours, rust, rounds);
             }
         }
@@ -185,7 +209,7 @@ fn measure(folder: &str, rounds: usize) {
 }
 
 fn call(sample: &Sample, what: &str, side: &str, times: usize) {
-    let (_, ours, rust) = SIDES.iter().find(|one| one.0 == what).expect("run, steps or words");
+    let (_, ours, rust) = SIDES.iter().find(|one| one.0 == what).expect("run, steps, words or lines");
     let side = if side == "ours" { ours } else { rust };
     let mut out = Out::new(sample.text.len());
     for _ in 0..times {
@@ -198,11 +222,11 @@ fn main() {
     let words: Vec<String> = std::env::args().skip(1).collect();
     let words: Vec<&str> = words.iter().map(String::as_str).collect();
     match words[..] {
-        [folder, rounds] => measure(folder, rounds.parse().expect("a number of rounds")),
+        [folder, rounds, ref only @ ..] if rounds.parse::<usize>().is_ok() => measure(folder, rounds.parse().unwrap(), only),
         [folder, name, size, what, side, times] => {
             let sample = sample(folder, name, size.parse().expect("a size"));
             call(&sample, what, side, times.parse().expect("a number of times"));
         }
-        _ => panic!("usage: bench FOLDER-OF-TEXTS (ROUNDS | TEXT SIZE WHAT SIDE TIMES)"),
+        _ => panic!("usage: bench FOLDER-OF-TEXTS (ROUNDS [WHAT].. | TEXT SIZE WHAT SIDE TIMES)"),
     }
 }

@@ -1,15 +1,20 @@
 //! A text of a script: the records of a case line, over and over to a size, for both sides.
 
 use crate::text::cluster::{CharInfo, Token};
-use crate::text::words::Record as WordRecord;
+use crate::text::words::{with_line, Record as WordRecord};
 use crate::text::{Category, ClusterBreak, Lent, MyanmarClass, Part as RustPart, Parts, Properties, UseClass, WordBreak};
 use ezherbut::{Marks, Parser, Part, Record, Text};
+use std::collections::HashMap;
 
 pub struct Sample {
     pub parser: Parser,
     pub text: Text,
     pub tokens: Vec<Token>,
+    /// The line classes, which the text has not.
+    pub lines: Vec<u8>,
     pub words: Vec<WordRecord>,
+    /// The records as the text that `next` is given.
+    pub both: Vec<char>,
     pub lent: Lent,
 }
 
@@ -124,7 +129,16 @@ fn lent(records: &[(Record, Vec<Part>)]) -> Lent {
 }
 
 impl Sample {
-    pub fn of(line: &str, size: usize) -> Self {
+    /// `classes` has a line for each scalar, with its line class by number, and comments.
+    pub fn of(line: &str, classes: &str, size: usize) -> Self {
+        let classes: HashMap<u32, u8> = classes
+            .lines()
+            .filter(|line| !line.starts_with('#'))
+            .map(|line| {
+                let fields: Vec<&str> = line.split(' ').collect();
+                (scalar(fields[0]), number(fields[1]))
+            })
+            .collect();
         let columns: Vec<&str> = line.trim_end().split(';').collect();
         let parts: Vec<Part> = fields(columns[5]).iter().map(|item| part(item)).collect();
         let records: Vec<(Record, Vec<Part>)> = fields(columns[4])
@@ -139,17 +153,22 @@ impl Sample {
             parser: parser(columns[0], columns[2]),
             text: Text::new(),
             tokens: Vec::new(),
+            lines: Vec::new(),
             words: Vec::new(),
+            both: Vec::new(),
             lent: lent(&records),
         };
         for (index, (record, own)) in records.iter().cycle().take(size).enumerate() {
             sample.text.push_with_parts(*record, own);
             sample.tokens.push(token(record, index));
-            let class = WordBreak::from_code(record.word).unwrap();
-            sample.words.push(WordRecord {
-                class,
+            let line = classes[&record.scalar];
+            let word = WordRecord {
+                class: WordBreak::from_code(record.word).unwrap(),
                 pictograph: record.marks.pictograph,
-            });
+            };
+            sample.lines.push(line);
+            sample.words.push(word);
+            sample.both.push(with_line(word, line));
         }
         sample
     }

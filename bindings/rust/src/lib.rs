@@ -1,8 +1,9 @@
-//! Proved text segmentation: the three cluster parsers and the word machine of swash 0.2.10, over a static library that is proved in
-//! Rattle. Every call ends and stays inside its columns, for every input, and bad input gets a [`Refusal`], never a default.
+//! Proved text segmentation: the three cluster parsers, the word machine and the line machine of swash 0.2.10, over a static library
+//! that is proved in Rattle. Every call ends and stays inside its columns, for every input, and bad input gets a [`Refusal`], never a
+//! default.
 //!
-//! [`Text`] builds the columns of a text, [`Columns`] lends columns that are there already. [`Columns::clusters`] and [`Columns::words`]
-//! iterate. A call on a label of up to 256 tokens fits in 16 KiB of stack and a call on any text in 256 KiB; tests/stack.rs runs every
+//! [`Text`] builds the columns of a text, [`Columns`] lends columns that are there already. [`Columns::clusters`], [`Columns::words`] and
+//! [`Columns::lines`] iterate; examples/wrap.rs wraps labels into boxes. A call on a label of up to 256 tokens fits in 16 KiB of stack and a call on any text in 256 KiB; tests/stack.rs runs every
 //! call so. Measured: 13.5 KB and 115 KB at most, on x86-64 and on Arm.
 //!
 //! ```
@@ -25,12 +26,14 @@
 
 mod clusters;
 pub mod codes;
+mod lines;
 mod refusal;
 mod sys;
 mod text;
 mod words;
 
 pub use clusters::{Character, Cluster, Clusters, Counts, Emoji, Mode, Parser, Run, Space, Step};
+pub use lines::{line_run, lines, Boundary, BoundaryState, LineState, Piece, Pieces, Strength};
 pub use refusal::{Refusal, Side};
 pub use text::{Columns, Marks, Part, Record, Text};
 pub use words::{word_check, word_run, WordState, Words};

@@ -76,6 +76,51 @@ extern "C" {
         results: *mut u64,
         results_count: usize,
     ) -> u64;
+    pub(crate) fn ezh_run_lines(
+        strength: u64,
+        table: *const u8,
+        table_count: usize,
+        lines: *const u8,
+        lines_count: usize,
+        words: *const u8,
+        words_count: usize,
+        pictographs: *const u8,
+        pictographs_count: usize,
+        out: *mut u8,
+        out_count: usize,
+        results: *mut u64,
+        results_count: usize,
+    ) -> u64;
+    pub(crate) fn ezh_step_line(
+        strength: u64,
+        table: *const u8,
+        table_count: usize,
+        row: u64,
+        before: *const u8,
+        before_count: usize,
+        line: u64,
+        results: *mut u64,
+        results_count: usize,
+    ) -> u64;
+    pub(crate) fn ezh_step_next(
+        strength: u64,
+        table: *const u8,
+        table_count: usize,
+        row: u64,
+        before: *const u8,
+        before_count: usize,
+        first: u64,
+        previous: u64,
+        prevent: u64,
+        count: u64,
+        line: u64,
+        word: u64,
+        pictograph: u64,
+        rest: *const u8,
+        rest_count: usize,
+        results: *mut u64,
+        results_count: usize,
+    ) -> u64;
 }
 
 /// Calls one of the functions over a text.

@@ -4,7 +4,9 @@
 use std::collections::BTreeMap;
 use std::fs;
 
-use ezherbut::{word_check, word_run, Cluster, Columns, Emoji, Mode, Parser, Refusal, Side, Space, WordState};
+use ezherbut::codes::PAIR_TABLE;
+use ezherbut::{line_run, word_check, word_run, BoundaryState, LineState};
+use ezherbut::{Boundary, Cluster, Columns, Emoji, Mode, Parser, Refusal, Side, Space, Strength, WordState};
 
 /// The columns of a case, of any codes.
 #[derive(Default)]
@@ -164,18 +166,9 @@ fn clusters_case(kind: char, fields: &[&str]) -> String {
     answer.unwrap_or_else(refused)
 }
 
-fn words_case(fields: &[&str]) -> String {
-    let &[cells, words] = fields else {
-        panic!("{fields:?}");
-    };
-    let pairs: Vec<(u8, u8)> = items(words)
-        .map(|fields| (fields[0].parse().unwrap(), fields[1].parse().unwrap()))
-        .collect();
-    let (words, pictographs): (Vec<u8>, Vec<u8>) = pairs.into_iter().unzip();
-    let mut out = vec![7; cells.parse().unwrap()];
-    let run = word_run(&words, &pictographs, &mut out);
-    hold_to_check(word_check(&words, &pictographs), &run);
-    let written = run.map_or(0, |()| words.len());
+/// The cells of a run, and that those past the written ones, with a refusal all, keep their content.
+fn cells(out: &[u8], run: Result<(), Refusal>, records: usize) -> String {
+    let written = run.map_or(0, |()| records);
     assert!(out[written..].iter().all(|&cell| cell == 7));
     match run {
         Ok(()) => out[..written].iter().map(u8::to_string).collect::<Vec<_>>().join(" "),
@@ -183,30 +176,126 @@ fn words_case(fields: &[&str]) -> String {
     }
 }
 
-fn word_step_case(fields: &[&str]) -> String {
-    let &[state, word, next] = fields else {
+fn bytes(list: &str) -> Vec<u8> {
+    list.split(',').map(|field| field.parse().unwrap()).collect()
+}
+
+fn words_case(fields: &[&str]) -> String {
+    let &[room, words] = fields else {
         panic!("{fields:?}");
     };
-    let state: Vec<u8> = state.split(',').map(|field| field.parse().unwrap()).collect();
-    let word: Vec<u8> = word.split(',').map(|field| field.parse().unwrap()).collect();
-    let rest: Vec<u8> = next.parse().into_iter().collect();
-    let state = WordState {
+    let pairs: Vec<Vec<u8>> = words.split(' ').filter(|item| !item.is_empty()).map(bytes).collect();
+    let column = |at: usize| -> Vec<u8> { pairs.iter().map(|pair| pair[at]).collect() };
+    let (words, pictographs) = (column(0), column(1));
+    let mut out = vec![7; room.parse().unwrap()];
+    let run = word_run(&words, &pictographs, &mut out);
+    hold_to_check(word_check(&words, &pictographs), &run);
+    cells(&out, run, words.len())
+}
+
+fn word_state(list: &str) -> WordState {
+    let state = bytes(list);
+    WordState {
         first: state[0] == 1,
         previous: state[1],
         prevent: state[2] == 1,
         count: state[3],
+    }
+}
+
+fn shown_word(state: WordState) -> String {
+    let (first, prevent) = (u8::from(state.first), u8::from(state.prevent));
+    format!("{first},{},{prevent},{}", state.previous, state.count)
+}
+
+fn word_step_case(fields: &[&str]) -> String {
+    let &[state, word, next] = fields else {
+        panic!("{fields:?}");
     };
+    let (state, word) = (word_state(state), bytes(word));
+    let rest: Vec<u8> = next.parse().into_iter().collect();
     let (answer, state) = match state.step(word[0], word[1], &rest) {
         Ok((after, begins)) => (u8::from(begins).to_string(), after),
         Err(refusal) => (refused(refusal), state),
     };
-    format!(
-        "{answer};{},{},{},{}",
-        u8::from(state.first),
-        state.previous,
-        u8::from(state.prevent),
-        state.count
-    )
+    format!("{answer};{}", shown_word(state))
+}
+
+fn strength(name: &str) -> Strength {
+    match name {
+        "Normal" => Strength::Normal,
+        "BreakAll" => Strength::BreakAll,
+        _ => Strength::KeepAll,
+    }
+}
+
+/// `crate`, or cells, some of them as `COUNT*cell`.
+fn table(list: &str) -> Vec<u8> {
+    if list == "crate" {
+        return PAIR_TABLE.to_vec();
+    }
+    let items = list.split(' ').filter(|item| !item.is_empty());
+    let repeated = items.map(|item| item.split_once('*').unwrap_or(("1", item)));
+    repeated
+        .flat_map(|(count, cell)| vec![cell.parse().unwrap(); count.parse().unwrap()])
+        .collect()
+}
+
+fn line_state(list: &str) -> LineState {
+    let (row, previous) = list.split_once(',').unwrap();
+    LineState {
+        row: row.parse().unwrap(),
+        previous: previous.parse().ok(),
+    }
+}
+
+fn shown_line(state: LineState) -> String {
+    let previous = state.previous.map_or("-".to_string(), |class| class.to_string());
+    format!("{},{previous}", state.row)
+}
+
+fn shown(boundary: Boundary) -> String {
+    (boundary as u8).to_string()
+}
+
+fn lines_case(fields: &[&str]) -> String {
+    let &[by, cells_of_table, room, records] = fields else {
+        panic!("{fields:?}");
+    };
+    let records: Vec<Vec<u8>> = records.split(' ').filter(|item| !item.is_empty()).map(bytes).collect();
+    let column = |at: usize| -> Vec<u8> { records.iter().map(|record| record[at]).collect() };
+    let mut out = vec![7; room.parse().unwrap()];
+    let run = line_run(&column(0), &column(1), &column(2), &table(cells_of_table), strength(by), &mut out);
+    cells(&out, run, records.len())
+}
+
+fn line_step_case(fields: &[&str]) -> String {
+    let &[by, cells, state, class] = fields else {
+        panic!("{fields:?}");
+    };
+    let state = line_state(state);
+    let (answer, state) = match state.step(&table(cells), strength(by), class.parse().unwrap()) {
+        Ok((after, before)) => (shown(before), after),
+        Err(refusal) => (refused(refusal), state),
+    };
+    format!("{answer};{}", shown_line(state))
+}
+
+fn next_case(fields: &[&str]) -> String {
+    let &[by, cells, line, word, record, next] = fields else {
+        panic!("{fields:?}");
+    };
+    let state = BoundaryState {
+        line: line_state(line),
+        word: word_state(word),
+    };
+    let record = bytes(record);
+    let rest: Vec<u8> = next.parse().into_iter().collect();
+    let (answer, state) = match state.next(&table(cells), strength(by), record[0], record[1], record[2], &rest) {
+        Ok((after, before)) => (shown(before), after),
+        Err(refusal) => (refused(refusal), state),
+    };
+    format!("{answer};{};{}", shown_line(state.line), shown_word(state.word))
 }
 
 fn answer(line: &str) -> (char, String) {
@@ -215,6 +304,9 @@ fn answer(line: &str) -> (char, String) {
     let answer = match kind {
         'W' => words_case(&fields[1..]),
         'w' => word_step_case(&fields[1..]),
+        'L' => lines_case(&fields[1..]),
+        'l' => line_step_case(&fields[1..]),
+        'n' => next_case(&fields[1..]),
         _ => clusters_case(kind, &fields[1..]),
     };
     (kind, answer)
@@ -244,7 +336,27 @@ fn the_fixed_lists() {
     }
     println!("compared: {compared:?}");
     // each kind has its cases, so that a list that is read wrongly does not pass
-    for kind in "SMCWwsmc".chars() {
-        assert!(compared.get(&kind).is_some_and(|&count| 400 < count), "{kind}: {compared:?}");
+    for (kinds, least) in [("SMCWwsmc", 400), ("lnL", 20)] {
+        for kind in kinds.chars() {
+            assert!(compared.get(&kind).is_some_and(|&count| least < count), "{kind}: {compared:?}");
+        }
+    }
+}
+
+/// The kinds of line breaks, by the examples of their layout.
+#[test]
+fn line_breaks() {
+    for (case, expected) in [
+        ("L;Normal;crate;3;1,8,0 37,7,0 1,8,0", "1 1 2"),
+        ("L;BreakAll;crate;2;1,8,0 1,8,0", "1 2"),
+        ("L;KeepAll;1980*236;2;1,8,0 1,8,0", "3 0"),
+        ("L;Normal;1935*0;9;1,8,0", "R 10 0 -"),
+        ("l;BreakAll;crate;1,1;1", "2;1,1"),
+        ("l;Normal;1979*0 45;44,-;43", "R 10 0 -;44,-"),
+        ("l;Normal;crate;53,42;43", "R 4 0 r;53,42"),
+        ("n;Normal;crate;44,-;1,0,0,0;20,0,0;-", "1;20,20;0,0,0,0"),
+        ("n;KeepAll;crate;44,-;1,0,0,3;20,0,0;18", "R 8 0 -;44,-;1,0,0,3"),
+    ] {
+        assert_eq!(answer(case).1, expected, "{case}");
     }
 }

@@ -8,13 +8,14 @@
 use std::hint::black_box;
 use std::thread;
 
-use ezherbut::codes::{category, cluster_break, myanmar_class, use_class, word_break};
-use ezherbut::{word_check, word_run, Columns, Mode, Parser, WordState};
+use ezherbut::codes::{category, cluster_break, line_break, myanmar_class, use_class, word_break, PAIR_TABLE};
+use ezherbut::{line_run, word_check, word_run, BoundaryState, Columns, LineState, Mode, Parser, Strength, WordState};
 
 const THREAD: usize = 256 * 1024;
 const LABEL: usize = 16 * 1024;
 const PARSERS: [Parser; 4] = [Parser::Simple, Parser::Myanmar, Parser::Complex, Parser::Khmer];
 const MODES: [Mode; 2] = [Mode::Crate, Mode::Whole];
+const STRENGTHS: [Strength; 3] = [Strength::Normal, Strength::BreakAll, Strength::KeepAll];
 
 /// A record: its scalar, its cluster break, USE and Myanmar class, and whether it is an emoji for each parser.
 #[derive(Clone, Copy)]
@@ -144,7 +145,7 @@ fn texts(tokens: usize) -> Vec<Lent> {
     ]
 }
 
-/// The columns that a full run and a word run write.
+/// The columns that a full run, a word run and a run of lines write.
 struct Out {
     scalars: Vec<u32>,
     classes: Vec<u8>,
@@ -194,6 +195,19 @@ fn every_call(text: &Lent, out: &mut Out, within: impl Fn(&mut dyn FnMut())) {
     assert!(accepted, "{}", text.name);
     within(&mut || accepted = WordState::START.step(word_break::OTHER, 0, columns.words).is_ok());
     assert!(accepted, "{}", text.name);
+    // zeros are line classes too
+    let (lines, words, pictographs) = (&text.zeros, columns.words, columns.pictographs);
+    for strength in STRENGTHS {
+        within(&mut || accepted = line_run(lines, words, pictographs, &PAIR_TABLE, strength, &mut out.words).is_ok());
+        assert!(accepted, "{}", text.name);
+        within(&mut || accepted = LineState::START.step(&PAIR_TABLE, strength, line_break::AL).is_ok());
+        assert!(accepted, "{}", text.name);
+        within(&mut || {
+            let step = BoundaryState::START.next(&PAIR_TABLE, strength, line_break::AL, word_break::OTHER, 0, columns.words);
+            accepted = step.is_ok();
+        });
+        assert!(accepted, "{}", text.name);
+    }
 }
 
 fn in_thread(call: impl FnOnce() + Send) {

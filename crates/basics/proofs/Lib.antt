@@ -1,3 +1,4 @@
 pub mod Tests
 pub mod Sets
 pub mod Choices
+pub mod Columns

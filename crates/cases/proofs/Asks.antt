@@ -13,16 +13,21 @@ use Rattle.records.specs.declared.Parser.{Parser}
 use Rattle.words.specs.declared.WordState.{WordState}
 use Rattle.words.specs.declared.Next.{Next}
 use Rattle.words.specs.declared.Next.the-variants.{Class, End}
-use Rattle.cases.specs.declared.lines.Line.{Line}
-use Rattle.cases.specs.declared.lines.Line.the-variants.{Skipped, NotOfLayout, Text, Words, Step}
-use Rattle.cases.specs.declared.lines.Asked.{Asked}
-use Rattle.cases.specs.declared.lines.Asked.the-variants.{Of, Nobody}
+use Rattle.lines.specs.declared.Strength.{Strength}
+use Rattle.lines.specs.declared.LineState.{LineState}
+use Rattle.lines.specs.declared.Previous.{Previous}
+use Rattle.lines.specs.declared.Previous.the-variants as Previous
+use Rattle.cases.specs.declared.layout.Line.{Line}
+use Rattle.cases.specs.declared.layout.Line.the-variants.{Skipped, NotOfLayout, Text, Words, Step, Lent}
+use Rattle.cases.specs.declared.layout.Task.the-variants.{LineStep, BoundaryStep, Boundaries}
+use Rattle.cases.specs.declared.layout.Asked.{Asked}
+use Rattle.cases.specs.declared.layout.Asked.the-variants.{Of, Nobody}
 use Rattle.cases.specs.declared.items.Kind.{Kind}
-use Rattle.cases.specs.declared.items.Kind.the-variants.{Record, Part, Word}
+use Rattle.cases.specs.declared.items.Kind.the-variants.{Record, Part, Word, Joint, Cell}
 use Rattle.cases.specs.declared.numbers.Number.{Number}
 use Rattle.cases.specs.declared.numbers.Number.the-variants.{Value, Nothing}
-use Rattle.cases.specs.Items.{itemsOf, isItem, fieldOf}
-use Rattle.cases.specs.Lines.{skipped, askedOf, textIn, moded, textLine, wordsLine, stateOf, stepTo, nextLine, kindLine, lineOf}
+use Rattle.cases.specs.Items.{itemsOf, isItem, fits, fieldOf}
+use Rattle.cases.specs.Lines.{skipped, askedOf, textIn, moded, textLine, wordsLine, stateOf, aheadOf, stepOf, named, previousOf, lineStateOf, boundaryOf, boundaries, lentLine, tableLine, kindLine, lineOf}
 use Rattle.cases.specs.Numbers.{numberOf, most16}
 use Rattle.cases.specs.Spans.{span, count, equal, letter}
 
@@ -33,15 +38,18 @@ same-of p q l t f e = rw (← f) e
 pub item-of : (kind : Kind) (p q : List ℕ) (t : Bool) → p ≡ q → t ≡ isItem kind p → t ≡ isItem kind q
 item-of kind p q t f e = rw (← f) e
 
+pub fits-of : (radix most : ℕ) (p q : List ℕ) (t : Bool) → p ≡ q → t ≡ fits radix most p → t ≡ fits radix most q
+fits-of radix most p q t f e = rw (← f) e
+
 -- a count that the code compares
-module _ (m n k : ℕ) (x y r : Line) (f : n ≡ m) where
+module _ {A : Type 0} (m n k : ℕ) (x y r : A) (f : n ≡ m) where
   pub count-then : n ≡ k → r ≡ x → r ≡ cond (eqb m k) x y
   count-then h e = rw (← f, eq-eqb n k h) e
 
   pub count-else : (n ≡ k → ⊥) → r ≡ y → r ≡ cond (eqb m k) x y
   count-else h e = rw (← f, ne-eqb n k h) e
 
-pub ruleset asks = (choices, same-of, item-of, count-then, count-else)
+pub ruleset asks = (choices, same-of, item-of, fits-of, count-then, count-else)
 
 module _ (xs : List ℕ) (n : ℕ) (e : n ≡ count 32 xs) where
   pub skipped-blank : n ≡ length xs → true ≡ skipped xs
@@ -106,26 +114,77 @@ pub state-read : (xs : List ℕ) (a b c d : ℕ) → a ≡ fieldOf 10 255 0 xs �
 unfolding stateOf
 state-read xs a b c d ea eb ec ed = rw (ea, eb, ec, ed)
 
-pub step-read : (xs p q : List ℕ) (s : WordState) (a b : ℕ) (next : Next) → p ≡ span 59 1 xs → s ≡ stateOf p → q ≡ span 59 2 xs → a ≡ fieldOf 10 255 0 q → b ≡ fieldOf 10 255 1 q
-    → Step s a b next ≡ stepTo xs next
-unfolding stepTo
-step-read xs p q s a b next fp es fq ea eb = rw (← fp, ← es, ← fq, ← ea, ← eb)
+module _ (xs : List ℕ) (s : ℕ) (e : s ≡ letter xs) where
+  pub ahead-end : s ≡ 45 → End ≡ aheadOf xs
+  unfolding aheadOf
+  ahead-end h = rw (← e, eq-eqb s 45 h)
 
-module _ (xs p : List ℕ) (s : ℕ) (fp : p ≡ span 59 3 xs) (es : s ≡ letter p) where
-  pub next-end : s ≡ 45 → (r : Line) → r ≡ stepTo xs End → r ≡ nextLine xs
-  unfolding nextLine
-  next-end h r e = rw (← fp, ← es, eq-eqb s 45 h) e
+  pub ahead-class : (v : ℕ) → (s ≡ 45 → ⊥) → v ≡ fieldOf 10 255 0 xs → Class v ≡ aheadOf xs
+  unfolding aheadOf
+  ahead-class v h f = rw (← e, ne-eqb s 45 h, f)
 
-  module _ (h : s ≡ 45 → ⊥) (n : Number) (en : n ≡ numberOf 10 255 p) where
-    pub next-no-number : n ≡ Nothing → NotOfLayout ≡ nextLine xs
-    unfolding nextLine
-    next-no-number k = rw (← fp, ← es, ne-eqb s 45 h, ← en, k)
+pub step-read : (xs p q o : List ℕ) (s : WordState) (a b : ℕ) (next : Next) → p ≡ span 59 1 xs → s ≡ stateOf p → q ≡ span 59 2 xs → a ≡ fieldOf 10 255 0 q → b ≡ fieldOf 10 255 1 q
+    → o ≡ span 59 3 xs → next ≡ aheadOf o → Step s a b next ≡ stepOf xs
+unfolding stepOf
+step-read xs p q o s a b next fp es fq ea eb fo en = rw (← fp, ← es, ← fq, ← ea, ← eb, ← fo, ← en)
 
-    pub next-class : (v : ℕ) → n ≡ Value v → (r : Line) → r ≡ stepTo xs (Class v) → r ≡ nextLine xs
-    unfolding nextLine
-    next-class v k r e = rw (← fp, ← es, ne-eqb s 45 h, ← en, k) e
+-- a line state
+module _ (xs p : List ℕ) (s : ℕ) (fp : p ≡ span 44 1 xs) (e : s ≡ letter p) where
+  pub previous-none : s ≡ 45 → Previous.Nothing ≡ previousOf xs
+  unfolding previousOf
+  previous-none h = rw (← fp, ← e, eq-eqb s 45 h)
 
-pub ruleset steps = (next-end, next-no-number, next-class)
+  pub previous-class : (v : ℕ) → (s ≡ 45 → ⊥) → v ≡ fieldOf 10 255 1 xs → Previous.Class v ≡ previousOf xs
+  unfolding previousOf
+  previous-class v h f = rw (← fp, ← e, ne-eqb s 45 h, f)
+
+pub row-read : (xs : List ℕ) (a : ℕ) (b : Previous) → a ≡ fieldOf 10 255 0 xs → b ≡ previousOf xs → record { row = a; previous = b } ≡ lineStateOf xs
+unfolding lineStateOf
+row-read xs a b ea eb = rw (ea, eb)
+
+-- the lines over a table
+module _ (strength : Strength) (own : Bool) (xs : List ℕ) where
+  pub line-step-read : (p q : List ℕ) (s : LineState) (a : ℕ) → p ≡ span 59 3 xs → s ≡ lineStateOf p → q ≡ span 59 4 xs → a ≡ fieldOf 10 255 0 q
+      → Lent strength own (LineStep s a) ≡ Lent strength own (LineStep (lineStateOf (span 59 3 xs)) (fieldOf 10 255 0 (span 59 4 xs)))
+  line-step-read p q s a fp es fq ea = rw (← fp, ← es, ← fq, ← ea)
+
+  pub boundary-read : (p q o m : List ℕ) (s : LineState) (w : WordState) (a b c : ℕ) (next : Next) → p ≡ span 59 3 xs → s ≡ lineStateOf p → q ≡ span 59 4 xs → w ≡ stateOf q
+      → o ≡ span 59 5 xs → a ≡ fieldOf 10 255 0 o → b ≡ fieldOf 10 255 1 o → c ≡ fieldOf 10 255 2 o → m ≡ span 59 6 xs → next ≡ aheadOf m
+      → Lent strength own (BoundaryStep s w a b c next) ≡ boundaryOf strength own xs
+  unfolding boundaryOf
+  boundary-read p q o m s w a b c next fp es fq ew fo ea eb ec fm en = rw (← fp, ← es, ← fq, ← ew, ← fo, ← ea, ← eb, ← ec, ← fm, ← en)
+
+  module _ (p : List ℕ) (n : Number) (fp : p ≡ span 59 3 xs) (en : n ≡ numberOf 10 most16 p) where
+    pub boundaries-no-number : n ≡ Nothing → NotOfLayout ≡ boundaries strength own xs
+    unfolding boundaries
+    boundaries-no-number h = rw (← fp, ← en, h)
+
+    module _ (size : ℕ) (hn : n ≡ Value size) (q : List ℕ) (a : Number) (fq : q ≡ span 59 4 xs) (ea : a ≡ itemsOf Joint q) where
+      pub boundaries-no-records : a ≡ Nothing → NotOfLayout ≡ boundaries strength own xs
+      unfolding boundaries
+      boundaries-no-records h = rw (← fp, ← en, hn, ← fq, ← ea, h)
+
+      pub boundaries-read : (records : ℕ) → a ≡ Value records → Lent strength own (Boundaries size records) ≡ boundaries strength own xs
+      unfolding boundaries
+      boundaries-read records h = rw (← fp, ← en, hn, ← fq, ← ea, h)
+
+pub ruleset boundary-runs = (boundaries-no-number, boundaries-no-records, boundaries-read)
+
+module _ (kind : ℕ) (strength : Strength) (xs p : List ℕ) (t : Bool) (fp : p ≡ span 59 2 xs) (et : t ≡ equal p named) (r : Line) where
+  pub table-own : t ≡ true → r ≡ lentLine kind strength true xs → r ≡ tableLine kind strength xs
+  unfolding tableLine
+  table-own h e = rw (← fp, ← et, h) e
+
+  module _ (h : t ≡ false) (a : Number) (ea : a ≡ itemsOf Cell p) where
+    pub table-lent : (v : ℕ) → a ≡ Value v → r ≡ lentLine kind strength false xs → r ≡ tableLine kind strength xs
+    unfolding tableLine
+    table-lent v k e = rw (← fp, ← et, h, ← ea, k) e
+
+    pub table-not : a ≡ Nothing → r ≡ NotOfLayout → r ≡ tableLine kind strength xs
+    unfolding tableLine
+    table-not k e = rw (← fp, ← et, h, ← ea, k) e
+
+pub ruleset tables = (table-own, table-lent, table-not)
 
 -- any line
 module _ (xs : List ℕ) (t : Bool) (e : t ≡ skipped xs) where

@@ -1,25 +1,26 @@
 -- Fields, items and their columns as the loops read them. Assumes nothing.
-use Prim.Native.Nat.{ℕ, zero, suc, _+_, _<_, _≤_}
-use mathlib.Core.Path.{_≡_, refl, sym, _∙_, ap}
+use Prim.Native.Nat.{ℕ, _+_, _<_, _≤_}
+use mathlib.Core.Path.{_≡_, sym, _∙_, ap}
 use mathlib.Core.Bool.{Bool, true, false}
-use mathlib.Core.List.{List, _++_, append-assoc}
-use native.Mathlib.Numerals.{add-one}
+use mathlib.Core.List.{List, _++_}
 use native.Mathlib.Omega.{arith}
-use lib.Dec.{eqb}
-use lib.ListN.{length, drop, set, length-append}
-use lib.Seq.{drop-cons, set-at}
+use lib.ListN.{length, drop, set, length-set}
+use lib.Seq.{length-take-le}
 use borrow.Author.Tests.{eq-eqb, ne-eqb}
+use Rattle.basics.specs.Columns.{cells}
+use Rattle.basics.proofs.Columns.{Written, written-more}
 use Rattle.basics.proofs.Sets.{every-more, every-fails}
 use Rattle.basics.specs.Sets.{every}
+use Rattle.io.specs.Counts.{Counts}
 use Rattle.cases.specs.declared.items.Kind.{Kind}
-use Rattle.cases.specs.declared.items.Kind.the-variants.{Record, Part, Word, State}
+use Rattle.cases.specs.declared.items.Kind.the-variants.{Record, Part, Word, State, Joint, Row, Ahead, Cell}
 use Rattle.cases.specs.declared.numbers.Number.{Number}
 use Rattle.cases.specs.declared.numbers.Number.the-variants.{Value, Nothing}
-use Rattle.cases.specs.Items.{commasOf, fits, recordField, partField, stateField, isField, fieldFits, isItem, itemFits, itemCount, itemsOf, fieldOf, cellOf, cells}
-use Rattle.cases.specs.Numbers.{numberOf}
-use Rattle.cases.specs.Spans.{span, count, upTo, rest}
+use Rattle.cases.specs.Items.{commasOf, fits, recordField, partField, stateField, dashOr, rowField, cellField, isField, fieldFits, isItem, itemFits, itemCount, itemsOf, fieldOf, cellOf}
+use Rattle.cases.specs.Numbers.{numberOf, orZero}
+use Rattle.cases.specs.Spans.{span, count, letter, upTo, nextFrom, rest}
 use Rattle.cases.proofs.Digits.{read-within}
-use Rattle.cases.proofs.Splits.{span-read}
+use Rattle.cases.proofs.Splits.{span-read, rest-more}
 
 -- n is what was read of the digits
 module _ (radix most : ℕ) (xs : List ℕ) (n : Number) (e : n ≡ numberOf radix most xs) where
@@ -34,17 +35,28 @@ module _ (radix most : ℕ) (xs : List ℕ) (n : Number) (e : n ≡ numberOf rad
   pub value-within : (v : ℕ) → n ≡ Value v → v ≤ most
   value-within v h = read-within radix most xs v (sym e ∙ h)
 
--- p is the span of field k
-module _ (radix most k : ℕ) (item p : List ℕ) (f : p ≡ span 44 k item) (n : Number) (e : n ≡ numberOf radix most p) where
-  pub field-value : (v : ℕ) → n ≡ Value v → v ≡ fieldOf radix most k item
-  unfolding fieldOf
-  field-value v h = rw (← f, ← e, h)
+  pub zero-value : (v : ℕ) → n ≡ Value v → v ≡ orZero (numberOf radix most xs)
+  zero-value v h = rw (← e, h)
 
-  pub field-nothing : n ≡ Nothing → 0 ≡ fieldOf radix most k item
-  unfolding fieldOf
-  field-nothing h = rw (← f, ← e, h)
+  pub zero-nothing : n ≡ Nothing → 0 ≡ orZero (numberOf radix most xs)
+  zero-nothing h = rw (← e, h)
 
-pub ruleset fields = (fits-value, fits-nothing, field-value, field-nothing)
+-- p is the span of field k, and v what it writes
+pub field-read : (radix most k : ℕ) (item p : List ℕ) (v : ℕ) → p ≡ span 44 k item → v ≡ orZero (numberOf radix most p) → v ≡ fieldOf radix most k item
+unfolding fieldOf
+field-read radix most k item p v f e = rw (← f) e
+
+pub ruleset fields = (fits-value, fits-nothing, zero-value, zero-nothing, field-read)
+
+-- s is the letter of a text of one byte
+module _ (xs : List ℕ) (s : ℕ) (e : s ≡ letter xs) where
+  pub dash-here : s ≡ 45 → true ≡ dashOr xs
+  unfolding dashOr
+  dash-here h = rw (← e, eq-eqb s 45 h)
+
+  pub dash-not : (t : Bool) → (s ≡ 45 → ⊥) → t ≡ fits 10 255 xs → t ≡ dashOr xs
+  unfolding dashOr
+  dash-not t h f = rw (← e, ne-eqb s 45 h) f
 
 module _ (kind : Kind) (k : ℕ) (xs : List ℕ) (r : Bool) where
   pub of-record : kind ≡ Record → r ≡ recordField k xs → r ≡ isField kind k xs
@@ -63,7 +75,23 @@ module _ (kind : Kind) (k : ℕ) (xs : List ℕ) (r : Bool) where
   unfolding isField
   of-state h e = rw h e
 
-pub ruleset kinds = (of-record, of-part, of-word, of-state)
+  pub of-joint : kind ≡ Joint → r ≡ fits 10 255 xs → r ≡ isField kind k xs
+  unfolding isField
+  of-joint h e = rw h e
+
+  pub of-row : kind ≡ Row → r ≡ rowField k xs → r ≡ isField kind k xs
+  unfolding isField
+  of-row h e = rw h e
+
+  pub of-ahead : kind ≡ Ahead → r ≡ dashOr xs → r ≡ isField kind k xs
+  unfolding isField
+  of-ahead h e = rw h e
+
+  pub of-cell : kind ≡ Cell → r ≡ cellField xs → r ≡ isField kind k xs
+  unfolding isField
+  of-cell h e = rw h e
+
+pub ruleset kinds = (of-record, of-part, of-word, of-state, of-joint, of-row, of-ahead, of-cell)
 
 -- the loop over the fields of an item; n and last are the commas that it has and should have
 module _ (kind : Kind) (item : List ℕ) (n last : ℕ) (en : n ≡ count 44 item) (el : last ≡ commasOf kind) where
@@ -112,22 +140,22 @@ module _ (kind : Kind) (xs : List ℕ) (i at : ℕ) (left : drop at xs ≡ rest 
   unfolding itemsOf
   items-all z last e l a h c ec = rw (ne-eqb _ _ z, ← e, ← l, items-more a h) (ap Value (ec ∙ ap itemCount (sym l)))
 
-pub cells-length : (f : ℕ → ℕ) (n : ℕ) → length (cells f n) ≡ n
-unfolding cells
-cells-length f zero = refl
-cells-length f (suc n) = simp (length-append, cells-length f n) (omega arith)
+-- a loop that reads a column of any width, before item i of n, which begins at `at`
+abbrev pub Reading : (ℕ → ℕ) → List ℕ → List ℕ → ℕ → List ℕ → ℕ → ℕ → Type 0
+Reading f xs out₀ n out at i = (i ≤ n) × ((length out ≡ length out₀) × ((drop at xs ≡ rest 32 i xs) × Written f out₀ i out))
 
--- a column after i items, whatever its width
-abbrev pub Filled : (ℕ → ℕ) → List ℕ → ℕ → List ℕ → Type 0
-Filled f out₀ i out = out ≡ cells f i ++ drop i out₀
+module _ (radix most k : ℕ) (xs out₀ : List ℕ) (n : ℕ) (out : List ℕ) (at i : ℕ) (reading : Reading (cellOf radix most k xs) xs out₀ n out at i) (l : n ≤ length out₀) where
+  pub column-more : i < n → (p : List ℕ) → p ≡ upTo 32 (drop at xs) → (v : ℕ) → v ≡ fieldOf radix most k p → (next : ℕ) → next ≡ nextFrom 32 at xs
+      → Reading (cellOf radix most k xs) xs out₀ n (set out i v) next (i + 1)
+  unfolding cellOf
+  column-more h p ep v ev next en =
+      let left : drop at xs ≡ rest 32 i xs = reading .1 .1 .0 in
+      let f : v ≡ cellOf radix most k xs i = ev ∙ ap (fieldOf radix most k) (span-read 32 xs i at left p ep) in
+      let j : i < length out₀ = omega arith in
+      (omega arith, (length-set out i v ∙ reading .1 .0, (rest-more 32 xs i at left next en, rw f (written-more (cellOf radix most k xs) out₀ out i j (reading .1 .1 .1)))))
 
-filled-more : (f : ℕ → ℕ) (out₀ out : List ℕ) (i : ℕ) → i < length out₀ → Filled f out₀ i out → Filled f out₀ (i + 1) (set out i (f i))
-unfolding cells
-filled-more f out₀ out i h e = rw (add-one i, append-assoc, e, drop-cons out₀ i 0 h) (set-at (cells f i) _ _ _ i (cells-length f i))
-
-pub column-more : (radix most k : ℕ) (xs : List ℕ) (i at : ℕ) → drop at xs ≡ rest 32 i xs → (p : List ℕ) → p ≡ upTo 32 (drop at xs) → (v : ℕ) → v ≡ fieldOf radix most k p
-    → (out₀ out : List ℕ) → i < length out₀ → Filled (cellOf radix most k xs) out₀ i out → Filled (cellOf radix most k xs) out₀ (i + 1) (set out i v)
-unfolding cellOf
-column-more radix most k xs i at left p ep v ev out₀ out h e =
-    let f : v ≡ cellOf radix most k xs i = ev ∙ ap (fieldOf radix most k) (span-read 32 xs i at left p ep) in
-    rw f (filled-more (cellOf radix most k xs) out₀ out i h e)
+  pub column-all : n ≤ i → Counts n out × (out ≡ cells (cellOf radix most k xs) n ++ drop n out₀)
+  column-all h =
+      let e : i ≡ n = omega (arith, reading .0) in
+      let m : n ≤ length out = omega (arith, reading .1 .0) in
+      ((m, sym (length-take-le n out m)), rw (← e) (reading .1 .1 .1))

@@ -1,4 +1,5 @@
 pub mod Asks
 pub mod Digits
 pub mod Fields
+pub mod Laid
 pub mod Splits

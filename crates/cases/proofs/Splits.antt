@@ -52,10 +52,22 @@ within : (b : Bool) (m n : ℕ) → m ≤ n → cond b 0 (suc m) ≤ suc n
 within true m n h = omega arith
 within false m n h = omega arith
 
+counted : (b : Bool) (m n : ℕ) → m ≤ n → cond b (suc m) m ≤ suc n
+counted true m n h = omega arith
+counted false m n h = omega arith
+
 pub before-within : (s : ℕ) (xs : List ℕ) → before s xs ≤ length xs
 unfolding before
 before-within s [] = omega arith
 before-within s (x ∷ xs) = let h : before s xs ≤ length xs = before-within s xs in within (eqb x s) (before s xs) (length xs) h
+
+count-within : (s : ℕ) (xs : List ℕ) → count s xs ≤ length xs
+unfolding count
+count-within s [] = omega arith
+count-within s (x ∷ xs) = let h : count s xs ≤ length xs = count-within s xs in counted (eqb x s) (count s xs) (length xs) h
+
+pub count-bound : (s : ℕ) (xs : List ℕ) (n : ℕ) → n ≡ count s xs → n ≤ length xs
+count-bound s xs n e = rw e (count-within s xs)
 
 -- where a span ends, and where the next begins
 module _ (s : ℕ) (xs : List ℕ) (at end : ℕ) (e : end ≡ at + before s (drop at xs)) where

@@ -1,24 +1,28 @@
 -- Items with one blank between, each of fields with one comma between.
-use Prim.Native.Nat.{ℕ, zero, suc, _+_}
-use mathlib.Core.Bool.{Bool, cond, _&&_}
-use mathlib.Core.List.{List, [], _∷_, _++_}
+use Prim.Native.Nat.{ℕ, _+_}
+use mathlib.Core.Bool.{Bool, false, cond, _&&_, _||_}
+use mathlib.Core.List.{List}
 use lib.Dec.{eqb, ltb}
 use lib.ListN.{length}
 use Rattle.records.specs.Refusals.{most}
 use Rattle.basics.specs.Sets.{every}
 use Rattle.cases.specs.declared.items.Kind.{Kind}
-use Rattle.cases.specs.declared.items.Kind.the-variants.{Record, Part, Word, State}
+use Rattle.cases.specs.declared.items.Kind.the-variants.{Record, Part, Word, State, Joint, Row, Ahead, Cell}
 use Rattle.cases.specs.declared.numbers.Number.{Number}
 use Rattle.cases.specs.declared.numbers.Number.the-variants.{Value, Nothing}
 use Rattle.cases.specs.Numbers.{numberOf, isNumber, orZero, most16}
-use Rattle.cases.specs.Spans.{span, count}
+use Rattle.cases.specs.Spans.{span, count, letter}
 
--- "record = 14 fields with commas between", a part and a word state have 4, a word has 2
+-- "record = 14 fields with commas between", a part and a word state have 4, a word has 2, a record of `next` 3, a line state 2
 abbrev pub commasOf : Kind → ℕ
 commasOf Record = 13
 commasOf Part = 3
 commasOf Word = 1
 commasOf State = 3
+commasOf Joint = 2
+commasOf Row = 1
+commasOf Ahead = 0
+commasOf Cell = 0
 
 -- digits of a radix, and nothing else, with a value up to the largest
 unfoldable pub fits : ℕ → ℕ → List ℕ → Bool
@@ -36,12 +40,30 @@ partField k xs = cond (eqb k 0) (fits 16 4294967295 xs) (fits 10 255 xs)
 unfoldable pub stateField : ℕ → List ℕ → Bool
 stateField k xs = cond (eqb k 0) (fits 10 1 xs) (cond (eqb k 2) (fits 10 1 xs) (fits 10 255 xs))
 
--- field k of an item; "word = 2 decimals up to 255"
+-- "- or a decimal up to 255"
+unfoldable pub dashOr : List ℕ → Bool
+dashOr xs = eqb (letter xs) 45 || fits 10 255 xs
+
+-- row, and the class before or -
+unfoldable pub rowField : ℕ → List ℕ → Bool
+rowField k xs = cond (eqb k 0) (fits 10 255 xs) (dashOr xs)
+
+-- "cell or COUNT*cell, a cell a decimal up to 255, COUNT a decimal up to 65,535"
+unfoldable pub cellField : List ℕ → Bool
+cellField xs =
+    cond (eqb (count 42 xs) 0) (fits 10 255 xs)
+    (cond (eqb (count 42 xs) 1) (cond (fits 10 most16 (span 42 0 xs)) (fits 10 255 (span 42 1 xs)) false) false)
+
+-- field k of an item; "word = 2 decimals up to 255", a record of `next` 3
 unfoldable pub isField : Kind → ℕ → List ℕ → Bool
 isField Record k xs = recordField k xs
 isField Part k xs = partField k xs
 isField Word k xs = fits 10 255 xs
 isField State k xs = stateField k xs
+isField Joint k xs = fits 10 255 xs
+isField Row k xs = rowField k xs
+isField Ahead k xs = dashOr xs
+isField Cell k xs = cellField xs
 
 unfoldable pub fieldFits : Kind → List ℕ → ℕ → Bool
 fieldFits kind item k = isField kind k (span 44 k item)
@@ -73,8 +95,3 @@ fieldOf radix most k item = orZero (numberOf radix most (span 44 k item))
 -- field k of item i
 unfoldable pub cellOf : ℕ → ℕ → ℕ → List ℕ → ℕ → ℕ
 cellOf radix most k xs i = fieldOf radix most k (span 32 i xs)
-
--- the cells of the first n items
-unfoldable pub cells : (ℕ → ℕ) → ℕ → List ℕ
-cells f zero = []
-cells f (suc n) = cells f n ++ (f n ∷ [])

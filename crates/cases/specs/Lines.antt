@@ -11,14 +11,20 @@ use Rattle.records.specs.declared.Parser.the-variants.{Simple, Myanmar, Complex
 use Rattle.words.specs.declared.WordState.{WordState}
 use Rattle.words.specs.declared.Next.{Next}
 use Rattle.words.specs.declared.Next.the-variants.{Class, End}
-use Rattle.cases.specs.declared.lines.Line.{Line}
-use Rattle.cases.specs.declared.lines.Line.the-variants.{Skipped, NotOfLayout, Text, Words, Step}
-use Rattle.cases.specs.declared.lines.Asked.{Asked}
-use Rattle.cases.specs.declared.lines.Asked.the-variants.{Of, Nobody}
-use Rattle.cases.specs.declared.items.Kind.the-variants.{Record, Part, Word, State}
+use Rattle.lines.specs.declared.Strength.{Strength}
+use Rattle.lines.specs.declared.Strength.the-variants.{Normal, BreakAll, KeepAll}
+use Rattle.lines.specs.declared.LineState.{LineState}
+use Rattle.lines.specs.declared.Previous.{Previous}
+use Rattle.lines.specs.declared.Previous.the-variants as Previous
+use Rattle.cases.specs.declared.layout.Line.{Line}
+use Rattle.cases.specs.declared.layout.Line.the-variants.{Skipped, NotOfLayout, Text, Words, Step, Lent}
+use Rattle.cases.specs.declared.layout.Task.the-variants.{LineStep, BoundaryStep, Boundaries}
+use Rattle.cases.specs.declared.layout.Asked.{Asked}
+use Rattle.cases.specs.declared.layout.Asked.the-variants.{Of, Nobody}
+use Rattle.cases.specs.declared.items.Kind.the-variants.{Record, Part, Word, State, Joint, Row, Ahead, Cell}
 use Rattle.cases.specs.declared.numbers.Number.{Number}
 use Rattle.cases.specs.declared.numbers.Number.the-variants.{Value, Nothing}
-use Rattle.cases.specs.Items.{itemsOf, isItem, fieldOf}
+use Rattle.cases.specs.Items.{itemsOf, isItem, fits, fieldOf}
 use Rattle.cases.specs.Numbers.{numberOf, most16}
 use Rattle.cases.specs.Spans.{span, count, equal, letter}
 
@@ -58,10 +64,14 @@ unfoldable pub textIn : Parser → Mode → Bool → List ℕ → Line
 textIn parser mode full xs =
     textWith parser mode full (numberOf 10 most16 (span 59 3 xs)) (itemsOf Record (span 59 4 xs)) (itemsOf Part (span 59 5 xs))
 
--- crate or whole, letter by letter
+-- crate, letter by letter
+abbrev pub named : List ℕ
+named = 99 ∷ 114 ∷ 97 ∷ 116 ∷ 101 ∷ []
+
+-- crate or whole
 unfoldable pub moded : Parser → Bool → List ℕ → Line
 moded parser full xs =
-    cond (equal (span 59 1 xs) (99 ∷ 114 ∷ 97 ∷ 116 ∷ 101 ∷ [])) (textIn parser Crate full xs)
+    cond (equal (span 59 1 xs) named) (textIn parser Crate full xs)
     (cond (equal (span 59 1 xs) (119 ∷ 104 ∷ 111 ∷ 108 ∷ 101 ∷ [])) (textIn parser Whole full xs) NotOfLayout)
 
 abbrev pub askedLine : Asked → List ℕ → Line
@@ -83,26 +93,88 @@ unfoldable pub stateOf : List ℕ → WordState
 stateOf xs =
     record { first = eqb (fieldOf 10 255 0 xs) 1; previous = fieldOf 10 255 1 xs; prevent = eqb (fieldOf 10 255 2 xs) 1; count = fieldOf 10 255 3 xs }
 
-unfoldable pub stepTo : List ℕ → Next → Line
-stepTo xs next = Step (stateOf (span 59 1 xs)) (fieldOf 10 255 0 (span 59 2 xs)) (fieldOf 10 255 1 (span 59 2 xs)) next
-
-abbrev pub stepWith : List ℕ → Number → Line
-stepWith xs (Value class) = stepTo xs (Class class)
-stepWith xs Nothing = NotOfLayout
-
 -- "next is - or a decimal up to 255"
-unfoldable pub nextLine : List ℕ → Line
-nextLine xs = cond (eqb (letter (span 59 3 xs)) 45) (stepTo xs End) (stepWith xs (numberOf 10 255 (span 59 3 xs)))
+unfoldable pub aheadOf : List ℕ → Next
+aheadOf xs = cond (eqb (letter xs) 45) End (Class (fieldOf 10 255 0 xs))
+
+unfoldable pub stepOf : List ℕ → Line
+stepOf xs =
+    Step (stateOf (span 59 1 xs)) (fieldOf 10 255 0 (span 59 2 xs)) (fieldOf 10 255 1 (span 59 2 xs)) (aheadOf (span 59 3 xs))
 
 unfoldable pub stepLine : List ℕ → Line
-stepLine xs = cond (isItem State (span 59 1 xs)) (cond (isItem Word (span 59 2 xs)) (nextLine xs) NotOfLayout) NotOfLayout
+stepLine xs =
+    cond (isItem State (span 59 1 xs))
+    (cond (isItem Word (span 59 2 xs)) (cond (isItem Ahead (span 59 3 xs)) (stepOf xs) NotOfLayout) NotOfLayout)
+    NotOfLayout
+
+-- "prev is a line class or -"
+unfoldable pub previousOf : List ℕ → Previous
+previousOf xs = cond (eqb (letter (span 44 1 xs)) 45) Previous.Nothing (Previous.Class (fieldOf 10 255 1 xs))
+
+unfoldable pub lineStateOf : List ℕ → LineState
+lineStateOf xs = record { row = fieldOf 10 255 0 xs; previous = previousOf xs }
+
+-- "l;STRENGTH;TABLE;row,prev;class"
+unfoldable pub lineStep : Strength → Bool → List ℕ → Line
+lineStep strength own xs =
+    cond (isItem Row (span 59 3 xs))
+    (cond (fits 10 255 (span 59 4 xs)) (Lent strength own (LineStep (lineStateOf (span 59 3 xs)) (fieldOf 10 255 0 (span 59 4 xs)))) NotOfLayout)
+    NotOfLayout
+
+-- "n;STRENGTH;TABLE;row,prev;first,prev,prevent,count;line,word,pict;next or -"
+unfoldable pub boundaryOf : Strength → Bool → List ℕ → Line
+boundaryOf strength own xs =
+    Lent strength own
+    (BoundaryStep (lineStateOf (span 59 3 xs)) (stateOf (span 59 4 xs))
+    (fieldOf 10 255 0 (span 59 5 xs)) (fieldOf 10 255 1 (span 59 5 xs)) (fieldOf 10 255 2 (span 59 5 xs)) (aheadOf (span 59 6 xs)))
+
+unfoldable pub boundaryStep : Strength → Bool → List ℕ → Line
+boundaryStep strength own xs =
+    cond (isItem Row (span 59 3 xs))
+    (cond (isItem State (span 59 4 xs))
+    (cond (isItem Joint (span 59 5 xs)) (cond (isItem Ahead (span 59 6 xs)) (boundaryOf strength own xs) NotOfLayout) NotOfLayout)
+    NotOfLayout)
+    NotOfLayout
+
+abbrev pub boundariesWith : Strength → Bool → Number → Number → Line
+boundariesWith strength own (Value size) (Value records) = Lent strength own (Boundaries size records)
+boundariesWith strength own (Value size) Nothing = NotOfLayout
+boundariesWith strength own Nothing records = NotOfLayout
+
+-- "L;STRENGTH;TABLE;CELLS;line,word,pict line,word,pict …"
+unfoldable pub boundaries : Strength → Bool → List ℕ → Line
+boundaries strength own xs =
+    boundariesWith strength own (numberOf 10 most16 (span 59 3 xs)) (itemsOf Joint (span 59 4 xs))
+
+-- the kinds over a table, by the number of semicolons
+unfoldable pub lentLine : ℕ → Strength → Bool → List ℕ → Line
+lentLine kind strength own xs =
+    cond (eqb (count 59 xs) 4)
+    (cond (eqb kind 108) (lineStep strength own xs) (cond (eqb kind 76) (boundaries strength own xs) NotOfLayout))
+    (cond (eqb (count 59 xs) 6) (cond (eqb kind 110) (boundaryStep strength own xs) NotOfLayout) NotOfLayout)
+
+abbrev pub tableWith : ℕ → Strength → Number → List ℕ → Line
+tableWith kind strength (Value items) xs = lentLine kind strength false xs
+tableWith kind strength Nothing xs = NotOfLayout
+
+-- "crate, the crate's own 53 rows of 44 cells, or items with one blank between, and may be empty"
+unfoldable pub tableLine : ℕ → Strength → List ℕ → Line
+tableLine kind strength xs =
+    cond (equal (span 59 2 xs) named) (lentLine kind strength true xs) (tableWith kind strength (itemsOf Cell (span 59 2 xs)) xs)
+
+-- Normal, BreakAll or KeepAll, letter by letter
+unfoldable pub strengthLine : ℕ → List ℕ → Line
+strengthLine kind xs =
+    cond (equal (span 59 1 xs) (78 ∷ 111 ∷ 114 ∷ 109 ∷ 97 ∷ 108 ∷ [])) (tableLine kind Normal xs)
+    (cond (equal (span 59 1 xs) (66 ∷ 114 ∷ 101 ∷ 97 ∷ 107 ∷ 65 ∷ 108 ∷ 108 ∷ [])) (tableLine kind BreakAll xs)
+    (cond (equal (span 59 1 xs) (75 ∷ 101 ∷ 101 ∷ 112 ∷ 65 ∷ 108 ∷ 108 ∷ [])) (tableLine kind KeepAll xs) NotOfLayout))
 
 -- the kinds, by the number of semicolons
 unfoldable pub kindLine : ℕ → List ℕ → Line
 kindLine kind xs =
     cond (eqb (count 59 xs) 5) (textLine kind xs)
     (cond (eqb (count 59 xs) 2) (cond (eqb kind 87) (wordsLine xs) NotOfLayout)
-    (cond (eqb (count 59 xs) 3) (cond (eqb kind 119) (stepLine xs) NotOfLayout) NotOfLayout))
+    (cond (eqb (count 59 xs) 3) (cond (eqb kind 119) (stepLine xs) NotOfLayout) (strengthLine kind xs)))
 
 unfoldable pub lineOf : List ℕ → Line
 lineOf xs = cond (skipped xs) Skipped (kindLine (letter (span 59 0 xs)) xs)

@@ -10,38 +10,41 @@ ghost use mathlib.Core.Path.{_≡_};
 ghost use mathlib.Core.List.{_++_};
 ghost use Prim.Native.Nat.{min, _≤_};
 ghost use lib.ListN.{length, drop};
-ghost use Rattle.cases.specs.Numbers.{most16};
+ghost use Rattle.basics.specs.Columns.{cells};
+ghost use Rattle.cases.specs.Numbers.{most16, radixOf, numberOf, orZero};
 ghost use Rattle.io.specs.Counts.{Counts};
-ghost use Rattle.cases.specs.Items.{fieldOf, cellOf, cells};
+ghost use Rattle.cases.specs.Items.{fieldOf, cellOf};
 
-pub fn field8(item: &[u8], k: usize) -> u8
-    ensures { λ r. ⌜ r ≡ fieldOf 10 255 k (now (item .entry)) ⌝ }
+// The number that decimals or hexadecimals write, or 0.
+pub(crate) fn value(digits: &[u8], base: Base, most: u32) -> u32
+    ensures { λ r. ⌜ r ≡ orZero (numberOf (radixOf base) most (now (digits .entry))) ⌝ }
+    ensures { λ r. ⌜ r ≤ most ⌝ }
 {
-    match read_number(span(item, b',', k), Base::Decimal, 255) {
-        Number::Value(v) => v as u8,
-        Number::Nothing => 0,
-    }
-}
-
-pub fn field16(item: &[u8], k: usize) -> u16
-    ensures { λ r. ⌜ r ≡ fieldOf 10 most16 k (now (item .entry)) ⌝ }
-{
-    match read_number(span(item, b',', k), Base::Decimal, MOST16) {
-        Number::Value(v) => v as u16,
-        Number::Nothing => 0,
-    }
-}
-
-pub fn field32(item: &[u8], k: usize) -> u32
-    ensures { λ r. ⌜ r ≡ fieldOf 16 4294967295 k (now (item .entry)) ⌝ }
-{
-    match read_number(span(item, b',', k), Base::Hexadecimal, 0xFFFFFFFF) {
+    match read_number(digits, base, most) {
         Number::Value(v) => v,
         Number::Nothing => 0,
     }
 }
 
-fn least(a: usize, b: usize) -> usize
+pub fn field8(item: &[u8], k: usize) -> u8
+    ensures { λ r. ⌜ r ≡ fieldOf 10 255 k (now (item .entry)) ⌝ }
+{
+    value(span(item, b',', k), Base::Decimal, 255) as u8
+}
+
+pub fn field16(item: &[u8], k: usize) -> u16
+    ensures { λ r. ⌜ r ≡ fieldOf 10 most16 k (now (item .entry)) ⌝ }
+{
+    value(span(item, b',', k), Base::Decimal, MOST16) as u16
+}
+
+pub fn field32(item: &[u8], k: usize) -> u32
+    ensures { λ r. ⌜ r ≡ fieldOf 16 4294967295 k (now (item .entry)) ⌝ }
+{
+    value(span(item, b',', k), Base::Hexadecimal, 0xFFFFFFFF)
+}
+
+pub(crate) fn least(a: usize, b: usize) -> usize
     ensures { λ r. ⌜ r ≡ min a b ⌝ }
     ensures { λ r. ⌜ r ≤ b ⌝ }
 {

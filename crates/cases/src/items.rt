@@ -4,6 +4,7 @@ use crate::numbers::MOST16;
 use crate::numbers::Number;
 use crate::numbers::read_number;
 use crate::spans::count;
+use crate::spans::letter;
 use crate::spans::next_of;
 use crate::spans::span;
 use crate::spans::span_at;
@@ -12,7 +13,7 @@ ghost use mathlib.Core.Path.{_≡_};
 ghost use Prim.Native.Nat.{_≤_};
 ghost use Rattle.cases.specs.Numbers.{radixOf};
 ghost use Rattle.cases.specs.Items as Items;
-ghost use Rattle.cases.specs.Items.{commasOf, recordField, partField, stateField, isField, isItem, itemCount, itemsOf};
+ghost use Rattle.cases.specs.Items.{commasOf, recordField, partField, stateField, dashOr, rowField, cellField, isField, isItem, itemCount, itemsOf};
 
 // What an item is.
 pub enum Kind {
@@ -20,6 +21,14 @@ pub enum Kind {
     Part,
     Word,
     State,
+    // A record of `next`: line class, word class, pictograph.
+    Joint,
+    // A line state: the row, and the class before or -.
+    Row,
+    // The class of the next record or -.
+    Ahead,
+    // A table's cell, or so many of them.
+    Cell,
 }
 
 fn commas(kind: Kind) -> usize
@@ -31,10 +40,14 @@ fn commas(kind: Kind) -> usize
         Kind::Part => 3,
         Kind::Word => 1,
         Kind::State => 3,
+        Kind::Joint => 2,
+        Kind::Row => 1,
+        Kind::Ahead => 0,
+        Kind::Cell => 0,
     }
 }
 
-fn fits(digits: &[u8], base: Base, most: u32) -> bool
+pub(crate) fn fits(digits: &[u8], base: Base, most: u32) -> bool
     ensures { λ r. ⌜ r ≡ Items.fits (radixOf base) most (now (digits .entry)) ⌝ }
 {
     match read_number(digits, base, most) {
@@ -76,6 +89,41 @@ fn is_state_field(k: usize, digits: &[u8]) -> bool
     fits(digits, Base::Decimal, 255)
 }
 
+// "- or a decimal up to 255"
+fn is_dash_or(digits: &[u8]) -> bool
+    ensures { λ r. ⌜ r ≡ dashOr (now (digits .entry)) ⌝ }
+{
+    if letter(digits) == b'-' {
+        return true;
+    }
+    fits(digits, Base::Decimal, 255)
+}
+
+fn is_row_field(k: usize, digits: &[u8]) -> bool
+    ensures { λ r. ⌜ r ≡ rowField k (now (digits .entry)) ⌝ }
+{
+    if k == 0 {
+        return fits(digits, Base::Decimal, 255);
+    }
+    is_dash_or(digits)
+}
+
+// "cell or COUNT*cell"
+fn is_cell_field(digits: &[u8]) -> bool
+    ensures { λ r. ⌜ r ≡ cellField (now (digits .entry)) ⌝ }
+{
+    let stars = count(digits, b'*');
+    if stars == 0 {
+        return fits(digits, Base::Decimal, 255);
+    }
+    if stars == 1 {
+        if fits(span(digits, b'*', 0), Base::Decimal, MOST16) {
+            return fits(span(digits, b'*', 1), Base::Decimal, 255);
+        }
+    }
+    false
+}
+
 fn is_field(kind: Kind, k: usize, digits: &[u8]) -> bool
     ensures { λ r. ⌜ r ≡ isField kind k (now (digits .entry)) ⌝ }
 {
@@ -84,6 +132,10 @@ fn is_field(kind: Kind, k: usize, digits: &[u8]) -> bool
         Kind::Part => is_part_field(k, digits),
         Kind::Word => fits(digits, Base::Decimal, 255),
         Kind::State => is_state_field(k, digits),
+        Kind::Joint => fits(digits, Base::Decimal, 255),
+        Kind::Row => is_row_field(k, digits),
+        Kind::Ahead => is_dash_or(digits),
+        Kind::Cell => is_cell_field(digits),
     }
 }
 

@@ -1,17 +1,19 @@
 // Reading of case lines. A line that is not of the layout says so.
 mod columns;
 mod items;
-mod lines;
+mod layout;
 mod numbers;
 mod spans;
+mod table;
 
 pub use columns::column8;
 pub use columns::column16;
 pub use columns::column32;
 pub use items::Kind;
 pub use items::count_items;
-pub use lines::Line;
-pub use lines::read;
+pub use layout::Line;
+pub use layout::Task;
+pub use layout::read;
 pub use numbers::Base;
 pub use numbers::Number;
 pub use numbers::read_number;
@@ -19,3 +21,5 @@ pub use spans::letter;
 pub use spans::next_of;
 pub use spans::span;
 pub use spans::span_at;
+pub use table::Table;
+pub use table::lay_table;

@@ -9,7 +9,7 @@ use lib.Dec.{leb}
 use lib.ListN.{length, getD, take, set}
 use lib.Seq.{take-suc-set}
 use borrow.Author.Tests.{le-leb, lt-leb}
-use Rattle.cases.specs.Items.{cells}
+use Rattle.basics.specs.Columns.{cells}
 use Rattle.label.specs.declared.lookup.Field.{Field}
 use Rattle.label.specs.Lines.{Line, UNKNOWN, fieldOf, said, seek, has, classIn}
 use Rattle.label.specs.Said.{saidAt}

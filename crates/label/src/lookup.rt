@@ -7,7 +7,7 @@ use records::cells::cell32;
 ghost use mathlib.Core.Path.{_≡_};
 ghost use Prim.Native.Nat.{_≤_, min};
 ghost use lib.ListN.{length, take};
-ghost use Rattle.cases.specs.Items.{cells};
+ghost use Rattle.basics.specs.Columns.{cells};
 ghost use Rattle.label.specs.Lines.{classIn, fieldOf, said};
 ghost use Rattle.label.specs.Said.{saidAt};
 ghost use Rattle.label.specs.Table as Table;

@@ -16,7 +16,7 @@ use Rattle.lines.specs.declared.Boundary.{Boundary}
 use Rattle.lines.specs.declared.Boundary.the-variants as Boundary
 use Rattle.lines.specs.declared.LineState.{LineState}
 use Rattle.lines.specs.Rules.{pair, previousIn, leftOf, rightOf, keptTogether, isMandatory, isAllowed, asked, told, keeps, lineAnswer, lineAfter}
-use Rattle.lines.specs.Refusals.{badPrevious, stepVerdict, stepOf}
+use Rattle.lines.specs.Refusals.{badPrevious, judged, stepVerdict, stepOf}
 
 -- a previous class that is there, and one that is not
 module _ (p : Previous) (r : Bool) where
@@ -82,6 +82,10 @@ module _ (p : Previous) (r : Bool) where
 
   pub bad-none : p ≡ Nothing → r ≡ false → r ≡ badPrevious p
   bad-none e k = rw e k
+
+-- what was said of the record and of the state
+pub judged-of : (table : List ℕ) (v : Verdict) (a b x y : Bool) → v ≡ judged table a b → a ≡ x → b ≡ y → v ≡ judged table x y
+judged-of table v a b x y e f g = rw (← f, ← g) e
 
 -- v is what the judge said
 module _ (strength : Strength) (table : List ℕ) (s : LineState) (class : ℕ) (v : Verdict) (e : v ≡ stepVerdict table s class) where

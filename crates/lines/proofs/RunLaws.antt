@@ -1,30 +1,32 @@
 -- How the run's check and the run come out. Assumes nothing.
-use Prim.Native.Nat.{ℕ, zero, suc, _+_, _<_, _≤_}
+use Prim.Native.Nat.{ℕ, _+_, _<_, _≤_}
 use mathlib.Core.Path.{_≡_, refl, sym, _∙_}
 use mathlib.Core.Bool.{Bool, true, false, not, _||_}
 use mathlib.Core.List.{List, [], _∷_, _++_}
-use native.Mathlib.Nat.{le-refl}
 use native.Mathlib.Omega.{arith}
 use lib.Dec.{eqb, leb, ltb}
 use lib.ListN.{length, drop}
 use lib.Seq.{drop-at}
 use borrow.Author.Tests.{lt-ltb, le-ltb, eqb-true, eq-eqb}
 use Rattle.basics.proofs.Tests.{neither}
+use Rattle.basics.specs.Columns.{cells}
+use Rattle.basics.specs.Sets.{any}
+use Rattle.basics.proofs.Columns.{cells-length}
 use Rattle.classes.specs.WordBreak as WordBreak
 use Rattle.records.specs.Text.{cell}
-use Rattle.records.specs.Refusals.{refusal, refuse, _⊳_, over, most, tooLong, uneven, outside, coded, mark, judgeLengths, judgeWord, wordVerdict}
-use Rattle.records.specs.declared.Side.{Side}
+use Rattle.records.specs.Refusals.{refusal, refuse, over, most, tooLong, uneven, outside, coded, mark, judgeLengths, judgeWord, wordVerdict}
 use Rattle.records.specs.declared.Side.the-variants.{Record, Neither}
 use Rattle.records.specs.declared.Refusal.{Refusal}
 use Rattle.records.specs.declared.Verdict.{Verdict}
 use Rattle.records.specs.declared.Verdict.the-variants.{Accepted, Refused}
 use Rattle.words.specs.Run as Words
-use Rattle.words.proofs.Answers.{answers-length}
 use Rattle.lines.specs.LineBreak as LineBreak
 use Rattle.lines.specs.Refusals.{badTable}
 use Rattle.lines.specs.Run.{answers, judgeRecord, checkVerdict, runVerdict, runCells}
-use Rattle.lines.specs.Inner.{overlaid}
+use Rattle.lines.specs.Inner.{laidAt, unlisted}
 use Rattle.lines.specs.declared.Strength.{Strength}
+use Rattle.records.proofs.Verdicts.{unrefused, passes, over-each, each-over}
+use Rattle.lines.proofs.Laws.{none-at}
 use Rattle.lines.proofs.Turns.{merged-all}
 
 -- the check, where v is what was said of the lengths
@@ -33,34 +35,31 @@ module _ (table lines words pictographs : List ℕ) (v : Verdict) (e : v ≡ jud
   unfolding checkVerdict
   check-shape r h = rw (← e, h)
 
-  pub check-table : (t : Bool) → v ≡ Accepted → t ≡ badTable table → t ≡ true → Refused (refusal 10 Neither 0) ≡ checkVerdict table lines words pictographs
+  pub check-table : (t : Bool) (q : Verdict) → v ≡ Accepted → t ≡ badTable table → t ≡ true → q ≡ Refused (refusal 10 Neither 0) → q ≡ checkVerdict table lines words pictographs
   unfolding checkVerdict
-  check-table t h f g = rw (← e, h, ← f, g)
+  check-table t q h f g k = rw (← e, h, ← f, g) k
 
   pub check-records : (t : Bool) (q : Verdict) → v ≡ Accepted → t ≡ badTable table → t ≡ false → q ≡ over (λ i. judgeRecord (cell lines i) (cell words i) (cell pictographs i) i) 0 (length lines) → q ≡ checkVerdict table lines words pictographs
   unfolding checkVerdict
   check-records t q h f g k = rw (← e, h, ← f, g) k
 
+-- where every code is of its list, no record is refused
+module _ (lines words pictographs : List ℕ) (none : unlisted lines words pictographs ≡ false) where
+  listed-records : (n : ℕ) → over (λ i. judgeRecord (cell lines i) (cell words i) (cell pictographs i) i) 0 n ≡ Accepted
+  unfolding judgeRecord
+  listed-records n =
+      let a : _ = neither (any (λ v. leb LineBreak.len v) lines) (any (λ v. leb WordBreak.len v) words || any (λ v. leb 2 v) pictographs) none in
+      let b : _ = neither (any (λ v. leb WordBreak.len v) words) (any (λ v. leb 2 v) pictographs) (a .1) in
+      each-over _ n 0 (λ k l h. rw (none-at (λ v. leb LineBreak.len v) lines k (a .0) refl, none-at (λ v. leb WordBreak.len v) words k (b .0) refl, none-at (λ v. leb 2 v) pictographs k (b .1) refl))
+
+  listed-checked : (table : List ℕ) (v : Verdict) (t : Bool) → v ≡ judgeLengths (length lines ∷ length words ∷ length pictographs ∷ []) [] → v ≡ Accepted → t ≡ badTable table → t ≡ false → Accepted ≡ checkVerdict table lines words pictographs
+  unfolding checkVerdict
+  listed-checked table v t e h f g = rw (← e, h, ← f, g) (sym (listed-records (length lines)))
+
+pub check-listed : (table lines words pictographs : List ℕ) (v : Verdict) (t u : Bool) → v ≡ judgeLengths (length lines ∷ length words ∷ length pictographs ∷ []) [] → v ≡ Accepted → t ≡ badTable table → t ≡ false → u ≡ unlisted lines words pictographs → u ≡ false → Accepted ≡ checkVerdict table lines words pictographs
+check-listed table lines words pictographs v t u e h f g k l = listed-checked lines words pictographs (sym k ∙ l) table v t e h f g
+
 -- # What acceptance gives
-
-never : {A : Type 0} {r : Refusal} → Refused r ≡ Accepted → A
-never e = absurd (let z : _≡_ {A = ℕ} 0 1 = cc in omega arith)
-
-passes : (a b : Verdict) → a ⊳ b ≡ Accepted → (a ≡ Accepted) × (b ≡ Accepted)
-passes Accepted b e = (refl, e)
-passes (Refused r) b e = never e
-
-unrefused : (test : Bool) (number : ℕ) (side : Side) (index : ℕ) → refuse test number side index ≡ Accepted → test ≡ false
-unrefused true number side index h = never h
-unrefused false number side index h = refl
-
--- what passes one judge at each index passes another that asks for less
-over-less : (f g : ℕ → Verdict) → ((k : ℕ) → f k ≡ Accepted → g k ≡ Accepted) → (n i : ℕ) → over f i n ≡ Accepted → over g i n ≡ Accepted
-unfolding over
-over-less f g less zero i h = refl
-over-less f g less (suc n) i h =
-    let p : (f i ≡ Accepted) × (over f (i + 1) n ≡ Accepted) = passes (f i) (over f (i + 1) n) h in
-    rw (less i (p .0)) (over-less f g less n (i + 1) (p .1))
 
 word-less : (line word pictograph i : ℕ) → judgeRecord line word pictograph i ≡ Accepted → judgeWord word pictograph i ≡ Accepted
 unfolding judgeRecord judgeWord
@@ -98,44 +97,45 @@ module _ (a b c : ℕ) (h : judgeLengths (a ∷ b ∷ c ∷ []) [] ≡ Accepted)
 
 -- what the line run accepts, the word run accepts
 module _ (table lines words pictographs : List ℕ) (accepted : checkVerdict table lines words pictographs ≡ Accepted) where
-  parts : (judgeLengths (length lines ∷ length words ∷ length pictographs ∷ []) [] ≡ Accepted) × (over (λ i. judgeRecord (cell lines i) (cell words i) (cell pictographs i) i) 0 (length lines) ≡ Accepted)
+  pub check-passes : (judgeLengths (length lines ∷ length words ∷ length pictographs ∷ []) [] ≡ Accepted) × ((badTable table ≡ false) × (over (λ i. judgeRecord (cell lines i) (cell words i) (cell pictographs i) i) 0 (length lines) ≡ Accepted))
   unfolding checkVerdict
-  parts =
+  check-passes =
       let p = passes (judgeLengths (length lines ∷ length words ∷ length pictographs ∷ []) []) _ accepted in
-      (p .0, passes (refuse (badTable table) 10 Neither 0) _ (p .1) .1)
+      let q = passes (refuse (badTable table) 10 Neither 0) _ (p .1) in
+      (p .0, (unrefused _ 10 Neither 0 (q .0), q .1))
 
   pub one-length : length words ≡ length lines
-  one-length = second (length lines) (length words) (length pictographs) (parts .0)
+  one-length = second (length lines) (length words) (length pictographs) (check-passes .0)
 
   pub words-accepted : wordVerdict words pictographs ≡ Accepted
   unfolding wordVerdict
   words-accepted =
-      let o = over-less (λ i. judgeRecord (cell lines i) (cell words i) (cell pictographs i) i) (λ i. judgeWord (cell words i) (cell pictographs i) i)
-      (λ k. word-less (cell lines k) (cell words k) (cell pictographs k) k) (length lines) 0 (parts .1) in
-      rw (two-pass (length lines) (length words) (length pictographs) (parts .0), one-length) o
+      let o = each-over (λ i. judgeWord (cell words i) (cell pictographs i) i) (length lines) 0
+      (λ k l h. word-less (cell lines k) (cell words k) (cell pictographs k) k (over-each (λ i. judgeRecord (cell lines i) (cell words i) (cell pictographs i) i) (length lines) 0 (check-passes .1 .1) k l h)) in
+      rw (two-pass (length lines) (length words) (length pictographs) (check-passes .0), one-length) o
 
 -- # The run, where v is what the check said
 
 module _ (strength : Strength) (table lines words pictographs out : List ℕ) (v : Verdict) (e : v ≡ checkVerdict table lines words pictographs) where
   abbrev Ran : Verdict → List ℕ → Type 0
-  Ran r cells = (r ≡ runVerdict table lines words pictographs (length out)) × (cells ≡ runCells strength table lines words pictographs out)
+  Ran r cells′ = (r ≡ runVerdict table lines words pictographs (length out)) × (cells′ ≡ runCells strength table lines words pictographs out)
 
   pub ran-refused : (r : Refusal) → v ≡ Refused r → Ran v out
   unfolding runVerdict
   ran-refused r h = rw (← e, h) (refl, refl)
 
-  pub ran-short : v ≡ Accepted → length out < length lines → Ran (Refused (refusal 9 Neither 0)) out
+  pub ran-short : (q : Verdict) → q ≡ Refused (refusal 9 Neither 0) → v ≡ Accepted → length out < length lines → Ran q out
   unfolding runVerdict
-  ran-short h short = rw (← e, h, lt-ltb _ _ short) (refl, refl)
+  ran-short q k h short = rw (← e, h, lt-ltb _ _ short) (k, refl)
 
-  -- out₁ is what the word run left, cells what the line answers made of it
-  pub ran-whole : (out₁ cells : List ℕ) → v ≡ Accepted → length lines ≤ length out → out₁ ≡ Words.runCells words pictographs out → cells ≡ overlaid strength table lines out₁ (length lines) ++ drop (length lines) out₁ → Ran Accepted cells
+  -- out₁ is what the word run left, cells′ what the line answers made of it
+  pub ran-whole : (out₁ cells′ : List ℕ) → v ≡ Accepted → length lines ≤ length out → out₁ ≡ Words.runCells words pictographs out → cells′ ≡ cells (laidAt strength table lines out₁) (length lines) ++ drop (length lines) out₁ → Ran Accepted cells′
   unfolding runVerdict Words.runVerdict
-  ran-whole out₁ cells h long w k =
+  ran-whole out₁ cells′ h long w k =
       let good : checkVerdict table lines words pictographs ≡ Accepted = sym e ∙ h in
       let n : length words ≡ length lines = one-length table lines words pictographs good in
       let room : length words ≤ length out = omega (arith, n) in
       let f : out₁ ≡ Words.answers words pictographs (length lines) ++ drop (length lines) out =
       w ∙ rw (words-accepted table lines words pictographs good, le-ltb (length out) (length words) room, n) in
       rw (← e, h, le-ltb _ _ long)
-      (refl, k ∙ rw (f, merged-all strength table lines words pictographs (drop (length lines) out) (length lines) (length lines) (le-refl (length lines)), drop-at (Words.answers words pictographs (length lines)) (drop (length lines) out) (length lines) (answers-length words pictographs (length lines))))
+      (refl, k ∙ rw (f, merged-all strength table lines words pictographs out (length lines), drop-at (Words.answers words pictographs (length lines)) (drop (length lines) out) (length lines) (cells-length (Words.answerAt words pictographs) (length lines))))

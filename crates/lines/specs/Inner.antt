@@ -1,11 +1,28 @@
--- What only private contracts need: line answers laid over cells that hold word answers.
-use Prim.Native.Nat.{ℕ, zero, suc}
-use mathlib.Core.List.{List, [], _∷_, _++_}
+-- What only private contracts need: line answers laid over cells that hold word answers, and the greater of two numbers.
+use Prim.Native.Nat.{ℕ}
+use mathlib.Core.Bool.{Bool, cond, _||_}
+use mathlib.Core.List.{List}
+use lib.Dec.{eqb, leb, ltb}
+use Rattle.basics.specs.Sets.{any}
+use Rattle.classes.specs.WordBreak as WordBreak
 use Rattle.records.specs.Text.{cell}
-use Rattle.lines.specs.Run.{lineAt, merged}
+use Rattle.lines.specs.LineBreak as LineBreak
+use Rattle.lines.specs.Rules.{boundaryCode}
+use Rattle.lines.specs.Run.{lineAt}
 use Rattle.lines.specs.declared.Strength.{Strength}
 
--- the first n cells of a column with the line answers laid over them
-unfoldable pub overlaid : Strength → List ℕ → List ℕ → List ℕ → ℕ → List ℕ
-overlaid strength table lines out zero = []
-overlaid strength table lines out (suc i) = overlaid strength table lines out i ++ (merged (lineAt strength table lines i) (cell out i) ∷ [])
+-- the number of a line answer, and the word answer where that is none
+abbrev pub merged : ℕ → ℕ → ℕ
+merged line word = cond (eqb line 0) word line
+
+-- what is laid over the cell at an index of a column
+unfoldable pub laidAt : Strength → List ℕ → List ℕ → List ℕ → ℕ → ℕ
+laidAt strength table lines out i = merged (boundaryCode (lineAt strength table lines i)) (cell out i)
+
+-- whether a code of a column is outside its list
+abbrev pub unlisted : List ℕ → List ℕ → List ℕ → Bool
+unlisted lines words pictographs =
+    any (λ v. leb LineBreak.len v) lines || (any (λ v. leb WordBreak.len v) words || any (λ v. leb 2 v) pictographs)
+
+abbrev pub larger : ℕ → ℕ → ℕ
+larger a b = cond (ltb a b) b a

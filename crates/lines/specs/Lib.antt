@@ -3,4 +3,6 @@ pub mod Rules
 pub mod Refusals
 pub mod Run
 pub mod Inner
+pub mod NextStep
 pub mod PairTable
+pub mod Offences

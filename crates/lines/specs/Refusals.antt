@@ -34,10 +34,13 @@ badPrevious Nothing = false
 abbrev pub badState : List ℕ → LineState → Bool
 badState table s = leb (rowsOf table) (s .row) || badPrevious (s .previous)
 
--- 10, then 4, then 8
+-- of a step: 10, then 4 (record, index 0), then 8
+unfoldable pub judged : List ℕ → Bool → Bool → Verdict
+judged table badRecord badState =
+    refuse (badTable table) 10 Neither 0 ⊳ refuse badRecord 4 Record 0 ⊳ refuse badState 8 Neither 0
+
 unfoldable pub stepVerdict : List ℕ → LineState → ℕ → Verdict
-stepVerdict table s class =
-    refuse (badTable table) 10 Neither 0 ⊳ refuse (leb LineBreak.len class) 4 Record 0 ⊳ refuse (badState table s) 8 Neither 0
+stepVerdict table s class = judged table (leb LineBreak.len class) (badState table s)
 
 -- with a refusal "the state that it was given and none"
 abbrev pub stepUnder : Verdict → Strength → List ℕ → LineState → ℕ → LineStep

@@ -96,3 +96,10 @@ lineAnswer strength table s class =
 -- "Store the original value, not the modified one.": no strength is looked at
 unfoldable pub lineAfter : List ℕ → LineState → ℕ → LineState
 lineAfter table s class = record { row = rowIn (pair table (s .row) class); previous = Class class }
+
+-- `next`, "where word stands only if the line answer is none"; the word machine's answer is 1 where a word boundary stands, else 0
+abbrev pub orWord : Boundary → ℕ → Boundary
+orWord Boundary.None word = eqb word 1 ⇒ Boundary.Word ▹ Boundary.None
+orWord Boundary.Word word = Boundary.Word
+orWord Boundary.Line word = Boundary.Line
+orWord Boundary.Mandatory word = Boundary.Mandatory

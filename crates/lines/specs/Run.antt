@@ -1,9 +1,9 @@
 -- The run of `next` over three columns and a lent table: `check_line` and `check_word` at each record.
 use Prim.Native.Nat.{ℕ, zero, suc}
-use mathlib.Core.Bool.{cond}
 use mathlib.Core.List.{List, [], _∷_, _++_}
-use lib.Dec.{eqb, ltb}
+use lib.Dec.{ltb}
 use lib.ListN.{length, drop}
+use Rattle.basics.specs.Columns.{cells}
 use Rattle.classes.specs.WordBreak as WordBreak
 use Rattle.records.specs.Text.{cell}
 use Rattle.records.specs.Refusals.{refuse, _⊳_, over, coded, mark, outside, judgeLengths}
@@ -12,9 +12,10 @@ use Rattle.records.specs.declared.Verdict.{Verdict}
 use Rattle.records.specs.declared.Verdict.the-variants.{Accepted, Refused}
 use Rattle.words.specs.Run as Words
 use Rattle.lines.specs.LineBreak as LineBreak
-use Rattle.lines.specs.Rules.{boundaryCode, startState, lineAnswer, lineAfter}
+use Rattle.lines.specs.Rules.{boundaryCode, startState, lineAnswer, lineAfter, orWord}
 use Rattle.lines.specs.Refusals.{badTable}
 use Rattle.lines.specs.declared.Strength.{Strength}
+use Rattle.lines.specs.declared.Boundary.{Boundary}
 use Rattle.lines.specs.declared.LineState.{LineState}
 
 -- the state before the record at an index; no strength is looked at
@@ -22,23 +23,21 @@ unfoldable pub stateAt : List ℕ → List ℕ → ℕ → LineState
 stateAt table lines zero = startState
 stateAt table lines (suc i) = lineAfter table (stateAt table lines i) (cell lines i)
 
--- the line answer at an index, as a number
-unfoldable pub lineAt : Strength → List ℕ → List ℕ → ℕ → ℕ
-lineAt strength table lines i = boundaryCode (lineAnswer strength table (stateAt table lines i) (cell lines i))
+-- the line answer at an index
+unfoldable pub lineAt : Strength → List ℕ → List ℕ → ℕ → Boundary
+lineAt strength table lines i = lineAnswer strength table (stateAt table lines i) (cell lines i)
 
--- "mandatory, line, word or none, where word stands only if the line answer is none"; a word answer is 1 or 0
-abbrev pub merged : ℕ → ℕ → ℕ
-merged line word = cond (eqb line 0) word line
+-- the answer of `next` at an index, "mandatory, line, word or none": the word machine takes its step whatever the line answer is
+abbrev pub boundaryAt : Strength → List ℕ → List ℕ → List ℕ → List ℕ → ℕ → Boundary
+boundaryAt strength table lines words pictographs i = orWord (lineAt strength table lines i) (Words.answerAt words pictographs i)
 
--- the answer of `next` at an index: the word machine takes its step whatever the line answer is
+-- its number
 unfoldable pub answerAt : Strength → List ℕ → List ℕ → List ℕ → List ℕ → ℕ → ℕ
-answerAt strength table lines words pictographs i = merged (lineAt strength table lines i) (Words.answerAt words pictographs i)
+answerAt strength table lines words pictographs i = boundaryCode (boundaryAt strength table lines words pictographs i)
 
 -- the answers to the first n records
-unfoldable pub answers : Strength → List ℕ → List ℕ → List ℕ → List ℕ → ℕ → List ℕ
-answers strength table lines words pictographs zero = []
-answers strength table lines words pictographs (suc i) =
-    answers strength table lines words pictographs i ++ (answerAt strength table lines words pictographs i ∷ [])
+abbrev pub answers : Strength → List ℕ → List ℕ → List ℕ → List ℕ → ℕ → List ℕ
+answers strength table lines words pictographs = cells (answerAt strength table lines words pictographs)
 
 -- 4, of any of the three codes
 unfoldable pub judgeRecord : ℕ → ℕ → ℕ → ℕ → Verdict

@@ -3,32 +3,16 @@ use crate::LineState;
 use crate::Previous;
 use crate::line_break;
 use crate::rules::WIDTH;
-use records::Refusal;
+use crate::sweeps::names_no_row;
 use records::Side;
 use records::Verdict;
 use records::is_outside;
+use records::refused;
 ghost use mathlib.Core.Path.{_≡_};
-ghost use lib.Dec.{leb};
-ghost use Rattle.basics.specs.Sets.{any};
-ghost use Rattle.lines.specs.Rules.{rowIn};
-ghost use Rattle.lines.specs.Refusals.{badTable, badPrevious, badState, stepVerdict};
+ghost use Rattle.lines.specs.Refusals.{badTable, badPrevious, badState, judged, stepVerdict};
 
 // The row in which every text starts is the last that a table must have.
 const FEWEST: usize = 45;
-
-// Whether a cell names a row that the table has not.
-fn names_no_row(table: &[u8], rows: usize) -> bool
-    ensures { λ r. ⌜ r ≡ any (λ v. leb rows (rowIn v)) (now (table .entry)) ⌝ }
-{
-    let mut i: usize = 0;
-    while i < table.len() {
-        if rows <= (table[i] % 64) as usize {
-            return true;
-        }
-        i += 1;
-    }
-    false
-}
 
 pub(crate) fn is_bad_table(table: &[u8]) -> bool
     ensures { λ r. ⌜ r ≡ badTable (now (table .entry)) ⌝ }
@@ -55,7 +39,7 @@ impl Previous {
 }
 
 impl LineState {
-    fn is_bad(self, table: &[u8]) -> bool
+    pub(crate) fn is_bad(self, table: &[u8]) -> bool
         ensures { λ r. ⌜ r ≡ badState (now (table .entry)) self ⌝ }
     {
         if table.len() / WIDTH <= self.row as usize {
@@ -68,27 +52,26 @@ impl LineState {
     pub(crate) fn judge(self, table: &[u8], class: u8) -> Verdict
         ensures { λ r. ⌜ r ≡ stepVerdict (now (table .entry)) self class ⌝ }
     {
-        if is_bad_table(table) {
-            return Verdict::Refused(Refusal {
-                number: 10,
-                side: Side::Neither,
-                index: 0,
-            });
-        }
-        if is_outside(class, line_break::LEN) {
-            return Verdict::Refused(Refusal {
-                number: 4,
-                side: Side::Record,
-                index: 0,
-            });
-        }
-        if self.is_bad(table) {
-            return Verdict::Refused(Refusal {
-                number: 8,
-                side: Side::Neither,
-                index: 0,
-            });
-        }
-        Verdict::Accepted
+        judge_step(
+            table,
+            is_outside(class, line_break::LEN),
+            self.is_bad(table),
+        )
     }
+}
+
+// The refusals of a step, of its table, of its record and of its state.
+pub(crate) fn judge_step(table: &[u8], unlisted: bool, astray: bool) -> Verdict
+    ensures { λ r. ⌜ r ≡ judged (now (table .entry)) unlisted astray ⌝ }
+{
+    if is_bad_table(table) {
+        return refused(10, Side::Neither, 0);
+    }
+    if unlisted {
+        return refused(4, Side::Record, 0);
+    }
+    if astray {
+        return refused(8, Side::Neither, 0);
+    }
+    Verdict::Accepted
 }

@@ -2,19 +2,26 @@
 // which merges its answers with those of the word machine.
 mod judge;
 pub mod line_break;
+mod next;
 pub mod pair_table;
 mod rules;
 mod runs;
+mod sweeps;
 
-use records::Refusal;
+use next::or_word;
 use records::Side;
 use records::Verdict;
+use records::refused;
 use runs::check;
 use runs::lay;
+use words::Next;
+use words::WordState;
 ghost use mathlib.Core.Path.{_≡_};
 ghost use lib.ListN.{length};
 ghost use Rattle.lines.specs.Rules.{boundaryCode, strengthCode, startState};
 ghost use Rattle.lines.specs.Refusals.{stepOf};
+ghost use Rattle.lines.specs.NextStep;
+ghost use Rattle.lines.specs.NextStep.{nextOf};
 ghost use Rattle.lines.specs.Run.{runVerdict, runCells};
 
 // How strongly words hold together, the Rust's `WordBreakStrength`.
@@ -47,6 +54,19 @@ pub struct LineState {
 // What a step hands back: the new state, the answer, and the verdict.
 pub struct LineStep {
     pub state: LineState,
+    pub answer: Boundary,
+    pub verdict: Verdict,
+}
+
+// Both machines, the Rust's `BoundaryState`.
+pub struct BoundaryState {
+    pub line: LineState,
+    pub word: WordState,
+}
+
+// What a step of `next` hands back.
+pub struct BoundaryStep {
+    pub state: BoundaryState,
     pub answer: Boundary,
     pub verdict: Verdict,
 }
@@ -111,6 +131,63 @@ impl LineState {
     }
 }
 
+impl BoundaryState {
+    pub const START: BoundaryState = BoundaryState {
+        line: LineState {
+            row: 44,
+            previous: Previous::Nothing,
+        },
+        word: WordState {
+            first: true,
+            previous: 0,
+            prevent: false,
+            count: 0,
+        },
+    };
+
+    // `START` is the start state of the definitions.
+    pub fn start() -> BoundaryState
+        ensures { λ r. ⌜ r ≡ NextStep.startState ⌝ }
+    {
+        BoundaryState::START
+    }
+
+    // One record: its line class, word class and pictograph mark, and the word class of the record after it. The states after it and
+    // its answer, or a refusal with the same states and the answer none.
+    pub fn next(
+        self,
+        table: &[u8],
+        strength: Strength,
+        line: u8,
+        word: u8,
+        pictograph: u8,
+        next: Next,
+    ) -> BoundaryStep
+        ensures { λ r. ⌜ r ≡ nextOf strength (now (table .entry)) self line word pictograph next ⌝ }
+    {
+        let verdict = self.judge(table, line, word, pictograph, next);
+        let Verdict::Accepted = verdict else {
+            return BoundaryStep {
+                state: self,
+                answer: Boundary::None,
+                verdict,
+            };
+        };
+        let before = self.line;
+        let counted = self.word;
+        let step = counted.step(word, pictograph, next);
+        let after = step.state;
+        BoundaryStep {
+            state: BoundaryState {
+                line: before.after(table, line),
+                word: after,
+            },
+            answer: or_word(before.answer(table, strength, line), step.answer),
+            verdict,
+        }
+    }
+}
+
 // The answers to a whole text, one cell a record: 0 none, 1 word, 2 line, 3 mandatory.
 pub fn run(
     table: &[u8],
@@ -128,11 +205,7 @@ pub fn run(
         return checked;
     };
     if out.len() < lines.len() {
-        return Verdict::Refused(Refusal {
-            number: 9,
-            side: Side::Neither,
-            index: 0,
-        });
+        return refused(9, Side::Neither, 0);
     }
     words::run(words, pictographs, out);
     lay(table, strength, lines, out);

@@ -3,25 +3,27 @@ use crate::LineState;
 use crate::Strength;
 use crate::judge::is_bad_table;
 use crate::line_break;
+use crate::sweeps::any_from;
 use classes::word_break;
 use records::MOST;
-use records::Refusal;
 use records::Side;
 use records::Verdict;
 use records::cells::any_above;
 use records::cells::cell8;
 use records::cells::uneven;
 use records::is_outside;
+use records::refused;
 ghost use mathlib.Core.Path.{_≡_};
 ghost use mathlib.Core.List.{[], _∷_, _++_};
 ghost use Prim.Native.Nat.{_≤_};
 ghost use lib.ListN.{length, drop};
+ghost use Rattle.basics.specs.Columns.{cells};
 ghost use Rattle.records.specs.Text.{cell};
 ghost use Rattle.records.specs.Refusals.{over, outside, coded, mark, judgeLengths};
 ghost use Rattle.classes.specs.WordBreak as WordBreak;
 ghost use Rattle.lines.specs.LineBreak as LineBreak;
-ghost use Rattle.lines.specs.Run.{merged, judgeRecord, checkVerdict};
-ghost use Rattle.lines.specs.Inner.{overlaid};
+ghost use Rattle.lines.specs.Run.{judgeRecord, checkVerdict};
+ghost use Rattle.lines.specs.Inner.{merged, laidAt, unlisted};
 
 // 1 and 2.
 fn judge_columns(lines: usize, words: usize, pictographs: usize) -> Verdict
@@ -29,23 +31,15 @@ fn judge_columns(lines: usize, words: usize, pictographs: usize) -> Verdict
 {
     let lengths = [lines, words, pictographs];
     if any_above(&lengths, MOST) {
-        return Verdict::Refused(Refusal {
-            number: 1,
-            side: Side::Neither,
-            index: 0,
-        });
+        return refused(1, Side::Neither, 0);
     }
     if uneven(&lengths) {
-        return Verdict::Refused(Refusal {
-            number: 2,
-            side: Side::Neither,
-            index: 0,
-        });
+        return refused(2, Side::Neither, 0);
     }
     Verdict::Accepted
 }
 
-fn is_bad_record(line: u8, word: u8, pictograph: u8) -> bool
+pub(crate) fn is_bad_record(line: u8, word: u8, pictograph: u8) -> bool
     ensures { λ r. ⌜ r ≡ outside (coded line LineBreak.len ∷ coded word WordBreak.len ∷ mark pictograph ∷ []) ⌝ }
 {
     if is_outside(line, line_break::LEN) {
@@ -62,11 +56,7 @@ fn judge_record(line: u8, word: u8, pictograph: u8, i: usize) -> Verdict
     ensures { λ r. ⌜ r ≡ judgeRecord line word pictograph i ⌝ }
 {
     if is_bad_record(line, word, pictograph) {
-        return Verdict::Refused(Refusal {
-            number: 4,
-            side: Side::Record,
-            index: i,
-        });
+        return refused(4, Side::Record, i);
     }
     Verdict::Accepted
 }
@@ -91,6 +81,19 @@ fn judge_records(lines: &[u8], words: &[u8], pictographs: &[u8]) -> Verdict
     Verdict::Accepted
 }
 
+// Whether a code is outside its list. Where none is, no record has to be judged by itself.
+fn is_unlisted(lines: &[u8], words: &[u8], pictographs: &[u8]) -> bool
+    ensures { λ r. ⌜ r ≡ unlisted (now (lines .entry)) (now (words .entry)) (now (pictographs .entry)) ⌝ }
+{
+    if any_from(lines, line_break::LEN) {
+        return true;
+    }
+    if any_from(words, word_break::LEN) {
+        return true;
+    }
+    any_from(pictographs, 2)
+}
+
 pub(crate) fn check(table: &[u8], lines: &[u8], words: &[u8], pictographs: &[u8]) -> Verdict
     ensures { λ r. ⌜ r ≡ checkVerdict (now (table .entry)) (now (lines .entry)) (now (words .entry)) (now (pictographs .entry)) ⌝ }
 {
@@ -99,13 +102,12 @@ pub(crate) fn check(table: &[u8], lines: &[u8], words: &[u8], pictographs: &[u8]
         return shape;
     };
     if is_bad_table(table) {
-        return Verdict::Refused(Refusal {
-            number: 10,
-            side: Side::Neither,
-            index: 0,
-        });
+        return refused(10, Side::Neither, 0);
     }
-    judge_records(lines, words, pictographs)
+    if is_unlisted(lines, words, pictographs) {
+        return judge_records(lines, words, pictographs);
+    }
+    Verdict::Accepted
 }
 
 fn merge(line: u8, word: u8) -> u8
@@ -117,15 +119,16 @@ fn merge(line: u8, word: u8) -> u8
 // The line answers to all records, laid over as many cells.
 pub(crate) fn lay(table: &[u8], strength: Strength, lines: &[u8], out: &mut [u8])
     requires { ⌜ length (now lines) ≤ length (now out) ⌝ }
-    ensures { λ _. ⌜ now (out .exit) ≡ overlaid strength (now (table .entry)) (now (lines .entry)) (now (out .entry)) (length (now (lines .entry))) ++ drop (length (now (lines .entry))) (now (out .entry)) ⌝ }
+    ensures { λ _. ⌜ now (out .exit) ≡ cells (laidAt strength (now (table .entry)) (now (lines .entry)) (now (out .entry))) (length (now (lines .entry))) ++ drop (length (now (lines .entry))) (now (out .entry)) ⌝ }
 {
     let mut state = LineState::start();
     let mut i: usize = 0;
     while i < lines.len() {
         let class = cell8(lines, i);
         let answer = state.answer(table, strength, class);
-        out[i] = merge(answer.code(), out[i]);
+        // before the store, so that the table's cell is read once
         state = state.after(table, class);
+        out[i] = merge(answer.code(), out[i]);
         i += 1;
     }
 }

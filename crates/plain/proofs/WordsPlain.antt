@@ -4,12 +4,12 @@ use Prim.Native.Nat.{ℕ, zero, suc, _+_, _-_, _<_, _≤_}
 use mathlib.Core.Path.{_≡_, refl, sym, _∙_, ap, subst}
 use mathlib.Core.Bool.{Bool, true, false, cond, not, _&&_, and-false, or-false}
 use mathlib.Core.List.{List, _++_}
-use native.Mathlib.Nat.{le-refl}
 use native.Mathlib.Omega.{arith}
 use native.Mathlib.Numerals.{add-one}
 use lib.Dec.{eqb, ltb}
 use lib.ListN.{length, drop, List·getD-eq-default}
 use borrow.Author.Tests.{ltb-false, ltb-true, not-true}
+use Rattle.basics.proofs.Columns.{cells-same}
 use Rattle.basics.proofs.Sets.{every-at}
 use Rattle.basics.proofs.Tests.{both}
 use Rattle.basics.specs.Sets.{member}
@@ -94,15 +94,10 @@ module _ (words pictographs : List ℕ) (plain : isPlainWords words ≡ true) wh
       ∙ ap (λ (r : WordStep). r .answer) (step-at i l)
       ∙ sym (boundary-is words pictographs i l ∙ rw (ahead-past (i + 1)))
 
-  answers-plain : (n : ℕ) → n ≤ length words → answers words pictographs n ≡ boundaries words pictographs n
-  unfolding answers boundaries
-  answers-plain zero l = refl
-  answers-plain (suc n) l = rw (answers-plain n (omega arith), answer-plain n l)
-
   -- The answers to a whole text are the boundaries, and so are the cells that a run writes; the boundary at the text's end does not
   -- belong to them.
   pub words-plain : answers words pictographs (length words) ≡ boundaries words pictographs (length words)
-  words-plain = answers-plain (length words) (le-refl (length words))
+  words-plain = cells-same (answerAt words pictographs) (boundaryAt words pictographs) (length words) answer-plain
 
   pub word-run-plain : (out : List ℕ) → runVerdict words pictographs (length out) ≡ Accepted → runCells words pictographs out ≡ boundaries words pictographs (length words) ++ drop (length words) out
   word-run-plain out e = rw (e, words-plain)

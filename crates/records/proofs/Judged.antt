@@ -18,7 +18,7 @@ use Rattle.records.specs.declared.Parser.the-variants.{Simple, Myanmar, 
 use Rattle.records.specs.declared.Verdict.{Verdict}
 use Rattle.records.specs.declared.Verdict.the-variants.{Accepted, Refused}
 use Rattle.records.specs.Refusals.{isComplex, isKhmer, refusal, refuse, _⊳_, over, tooLong, uneven, badScalar, outside, partCodes, recordClasses, recordMarks, badRun, barred, judgePart, judgeRecord, judgeSign, judgeSignAt, judgeParts, judgeRecords, judgeSigns, judgeLengths, verdict, judgeWord, wordVerdict}
-use Rattle.records.specs.Offences.{Line, breaks, Offends, Judges, ByTable, Asks, partLines, recordLines, lengthLines, badSignAt, someFrom, signLine, tableOf, wordLines, wordTableOf}
+use Rattle.records.specs.Offences.{Line, breaks, rank, Offends, Judges, ByTable, Asks, partLines, recordLines, lengthLines, badSignAt, someFrom, signLine, tableOf, wordLines, wordTableOf}
 use Rattle.records.proofs.Tables.{fits, inOrder, broken-fits, firstLine, firstOf, Ordered, by-table}
 
 -- # Verdicts one after the other
@@ -31,7 +31,7 @@ then-assoc : (a b c : Verdict) → (a ⊳ b) ⊳ c ≡ a ⊳ b ⊳ c
 then-assoc Accepted b c = refl
 then-assoc (Refused r) b c = refl
 
-over-same : (f g : ℕ → Verdict) → ((i : ℕ) → f i ≡ g i) → (n i : ℕ) → over f i n ≡ over g i n
+pub over-same : (f g : ℕ → Verdict) → ((i : ℕ) → f i ≡ g i) → (n i : ℕ) → over f i n ≡ over g i n
 unfolding over
 over-same f g e zero i = refl
 over-same f g e (suc n) i = rw (e i, over-same f g e n (i + 1))
@@ -107,9 +107,9 @@ barred-complex parser scalar class e = both (isComplex parser) _ (sym (or-false 
 
 module _ (numbers : List ℕ) (parser : Parser) (t : Text) (more : List Line) (ordered : Ordered numbers (tableOf parser t more)) where
   -- what a call adds are 8 and 9
-  added : (number : ℕ) → number < 8 → breaks more number ≡ true → ⊥
+  added : (number : ℕ) → rank number < 9 → breaks more number ≡ true → ⊥
   added number h b =
-      omega (arith, broken-fits numbers Neither 8 10 more number (both (fits numbers Neither 7 10 7) (inOrder numbers Neither 8 10 more) (ordered .after) .1) b .from)
+      omega (arith, broken-fits numbers Neither 9 11 more number (both (fits numbers Neither 8 11 7) (inOrder numbers Neither 9 11 more) (ordered .after) .1) b .from)
 
   offence-six : (side : Side) (index : ℕ) → Offends (tableOf parser t more) (refusal 6 side index) → isComplex parser ≡ true
   offence-six Neither index (i, b) = absurd (added 6 (omega arith) b)

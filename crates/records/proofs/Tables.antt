@@ -5,11 +5,11 @@ use mathlib.Core.Path.{_≡_, refl, sym, _∙_, ap, subst}
 use mathlib.Core.Bool.{Bool, true, false, cond, _&&_, _||_, and-false, or-true, or-assoc, false≢true}
 use mathlib.Core.List.{List, [], _∷_, _++_}
 use mathlib.Core.Logic.{_⊎_, inl, inr, ⊎-elim}
-use native.Mathlib.Nat.{eq-or-lt-of-le}
+use native.Mathlib.Nat.{eq-or-lt-of-le, le-of-eq}
 use native.Mathlib.Omega.{arith}
 use lib.Dec.{eqb, leb, ltb}
 use borrow.Author.Tests.{eqb-true, eq-eqb, leb-true, ltb-true, ltb-false, lt-ltb, le-ltb}
-use Rattle.basics.proofs.Tests.{both, either}
+use Rattle.basics.proofs.Tests.{both, by-test, either}
 use Rattle.basics.specs.Sets.{member}
 use Rattle.records.specs.declared.Side.{Side}
 use Rattle.records.specs.declared.Side.the-variants.{Record, Part, Neither}
@@ -17,31 +17,31 @@ use Rattle.records.specs.declared.Refusal.{Refusal}
 use Rattle.records.specs.declared.Verdict.{Verdict}
 use Rattle.records.specs.declared.Verdict.the-variants.{Accepted, Refused}
 use Rattle.records.specs.Refusals.{refusal, refuse, _⊳_, over}
-use Rattle.records.specs.Offences.{Line, breaks, Table, Offends, stageAt, stage, Earlier, Judges, sideNumbers, Carries, ByTable}
+use Rattle.records.specs.Offences.{Line, breaks, Table, Offends, rank, stageAt, stage, Earlier, Judges, sideNumbers, Carries, ByTable}
 
 -- # Lines in order
 
--- a number from low on and below high, of the call's numbers and of the side's
+-- a number whose rank is from low on and below high, of the call's numbers and of the side's
 abbrev pub fits : List ℕ → Side → ℕ → ℕ → ℕ → Bool
-fits numbers side low high number = leb low number && (ltb number high && (member numbers number && member (sideNumbers side) number))
+fits numbers side low high number = leb low (rank number) && (ltb (rank number) high && (member numbers number && member (sideNumbers side) number))
 
--- the numbers of the lines are such, and rise
+-- the numbers of the lines are such, and their ranks rise
 abbrev pub inOrder : List ℕ → Side → ℕ → ℕ → List Line → Bool
 inOrder numbers side low high [] = true
-inOrder numbers side low high (l ∷ ls) = fits numbers side low high (l .number) && inOrder numbers side (suc (l .number)) high ls
+inOrder numbers side low high (l ∷ ls) = fits numbers side low high (l .number) && inOrder numbers side (suc (rank (l .number))) high ls
 
 pub record Fits (numbers : List ℕ) (side : Side) (low high number : ℕ) : Type 0 where
-  pub from : low ≤ number
-  pub below : number < high
+  pub from : low ≤ rank number
+  pub below : rank number < high
   pub called : member numbers number ≡ true
   pub sided : member (sideNumbers side) number ≡ true
 
 test-fits : (numbers : List ℕ) (side : Side) (low high number : ℕ) → fits numbers side low high number ≡ true → Fits numbers side low high number
 test-fits numbers side low high number e =
-    let a : _ = both (leb low number) (ltb number high && (member numbers number && member (sideNumbers side) number)) e in
-    let b : _ = both (ltb number high) (member numbers number && member (sideNumbers side) number) (a .1) in
+    let a : _ = both (leb low (rank number)) (ltb (rank number) high && (member numbers number && member (sideNumbers side) number)) e in
+    let b : _ = both (ltb (rank number) high) (member numbers number && member (sideNumbers side) number) (a .1) in
     let c : _ = both (member numbers number) (member (sideNumbers side) number) (b .1) in
-    record { from = leb-true low number (a .0); below = ltb-true number high (b .0); called = c .0; sided = c .1 }
+    record { from = leb-true low (rank number) (a .0); below = ltb-true (rank number) high (b .0); called = c .0; sided = c .1 }
 
 told : {numbers : List ℕ} {side : Side} {low high number : ℕ} → Fits numbers side low high number → (member numbers number ≡ true) × (member (sideNumbers side) number ≡ true)
 told f = (f .called, f .sided)
@@ -50,11 +50,11 @@ told f = (f .called, f .sided)
 pub broken-fits : (numbers : List ℕ) (side : Side) (low high : ℕ) (ls : List Line) (number : ℕ) → inOrder numbers side low high ls ≡ true → breaks ls number ≡ true → Fits numbers side low high number
 broken-fits numbers side low high [] number ordered b = absurd (false≢true b)
 broken-fits numbers side low high (l ∷ ls) number ordered b =
-    let w : _ = both (fits numbers side low high (l .number)) (inOrder numbers side (suc (l .number)) high ls) ordered in
+    let w : _ = both (fits numbers side low high (l .number)) (inOrder numbers side (suc (rank (l .number))) high ls) ordered in
     let here : Fits numbers side low high (l .number) = test-fits numbers side low high (l .number) (w .0) in
     ⊎-elim (λ (h : (eqb (l .number) number && l .broken) ≡ true). subst (Fits numbers side low high) (eqb-true (l .number) number (both (eqb (l .number) number) (l .broken) h .0)) here)
     (λ (h : breaks ls number ≡ true).
-    let r : Fits numbers side (suc (l .number)) high number = broken-fits numbers side (suc (l .number)) high ls number (w .1) h in
+    let r : Fits numbers side (suc (rank (l .number))) high number = broken-fits numbers side (suc (rank (l .number))) high ls number (w .1) h in
     record { from = omega (arith, r .from, here .from); below = r .below; called = r .called; sided = r .sided })
     (either (eqb (l .number) number && l .broken) (breaks ls number) b)
 
@@ -66,25 +66,58 @@ breaks-append (l ∷ ls) ms number =
 
 -- # The order of offences
 
-stage-rises : (side : Side) (number number′ : ℕ) → number ≤ number′ → stageAt side number ≤ stageAt side number′
+-- what a number's rank is
+ranked : (n : ℕ) → ((n ≡ 10) × (rank n ≡ 3)) ⊎ (((n < 3) × (rank n ≡ n)) ⊎ ((3 ≤ n) × (rank n ≡ n + 1)))
+ranked n =
+    by-test (eqb n 10) (λ e. inl (eqb-true n 10 e, rw e))
+    (λ e. by-test (ltb n 3) (λ f. inr (inl (ltb-true n 3 f, rw (e, f)))) (λ f. inr (inr (ltb-false n 3 f, rw (e, f)))))
+
+-- it tells the number, and rises with it but for 10
+rank-tells : (a b : ℕ) → rank a ≡ rank b → a ≡ b
+rank-tells a b e = go (ranked a) (ranked b)
+  where
+    go : ((a ≡ 10) × (rank a ≡ 3)) ⊎ (((a < 3) × (rank a ≡ a)) ⊎ ((3 ≤ a) × (rank a ≡ a + 1))) → ((b ≡ 10) × (rank b ≡ 3)) ⊎ (((b < 3) × (rank b ≡ b)) ⊎ ((3 ≤ b) × (rank b ≡ b + 1))) → a ≡ b
+    go (inl p) (inl q) = omega (arith, p .0, q .0)
+    go (inl p) (inr (inl q)) = absurd (omega (arith, e, p .1, q .0, q .1))
+    go (inl p) (inr (inr q)) = absurd (omega (arith, e, p .1, q .0, q .1))
+    go (inr (inl p)) (inl q) = absurd (omega (arith, e, q .1, p .0, p .1))
+    go (inr (inl p)) (inr (inl q)) = omega (arith, e, p .1, q .1)
+    go (inr (inl p)) (inr (inr q)) = absurd (omega (arith, e, p .0, p .1, q .0, q .1))
+    go (inr (inr p)) (inl q) = absurd (omega (arith, e, q .1, p .0, p .1))
+    go (inr (inr p)) (inr (inl q)) = absurd (omega (arith, e, p .0, p .1, q .0, q .1))
+    go (inr (inr p)) (inr (inr q)) = omega (arith, e, p .1, q .1)
+
+rank-rises : (a b : ℕ) → (b ≡ 10 → ⊥) → a < b → rank a < rank b
+rank-rises a b ten l = go (ranked a) (ranked b)
+  where
+    go : ((a ≡ 10) × (rank a ≡ 3)) ⊎ (((a < 3) × (rank a ≡ a)) ⊎ ((3 ≤ a) × (rank a ≡ a + 1))) → ((b ≡ 10) × (rank b ≡ 3)) ⊎ (((b < 3) × (rank b ≡ b)) ⊎ ((3 ≤ b) × (rank b ≡ b + 1))) → rank a < rank b
+    go p (inl q) = absurd (ten (q .0))
+    go (inl p) (inr (inl q)) = absurd (omega (arith, p .0, q .0))
+    go (inr (inl p)) (inr (inl q)) = omega (arith, p .1, q .1)
+    go (inr (inr p)) (inr (inl q)) = absurd (omega (arith, p .0, q .0))
+    go (inl p) (inr (inr q)) = omega (arith, p .1, q .0, q .1)
+    go (inr (inl p)) (inr (inr q)) = omega (arith, p .1, q .1)
+    go (inr (inr p)) (inr (inr q)) = omega (arith, p .1, q .1)
+
+stage-rises : (side : Side) (number number′ : ℕ) → rank number ≤ rank number′ → stageAt side number ≤ stageAt side number′
 stage-rises Part number number′ h = omega arith
 stage-rises Record number number′ h = omega arith
-stage-rises Neither number number′ h = go (ltb number 3) (ltb number′ 3) refl refl
+stage-rises Neither number number′ h = go (ltb (rank number) 4) (ltb (rank number′) 4) refl refl
   where
-    go : (a b : Bool) → ltb number 3 ≡ a → ltb number′ 3 ≡ b → cond a 0 3 ≤ cond b 0 3
+    go : (a b : Bool) → ltb (rank number) 4 ≡ a → ltb (rank number′) 4 ≡ b → cond a 0 3 ≤ cond b 0 3
     go true b e f = omega arith
-    go false true e f = absurd (omega (arith, ltb-false number 3 e, ltb-true number′ 3 f))
+    go false true e f = absurd (omega (arith, ltb-false (rank number) 4 e, ltb-true (rank number′) 4 f))
     go false false e f = omega arith
 
--- at one side and index only a lower number comes earlier, and it does
-not-earlier : (r : Refusal) (number : ℕ) → r .number ≤ number → Earlier (refusal number (r .side) (r .index)) r → ⊥
+-- at one side and index only what ranks lower comes earlier, and it does
+not-earlier : (r : Refusal) (number : ℕ) → rank (r .number) ≤ rank number → Earlier (refusal number (r .side) (r .index)) r → ⊥
 not-earlier r number h (inl l) = omega (arith, stage-rises (r .side) (r .number) number h)
 not-earlier r number h (inr (e, inl l)) = omega arith
 not-earlier r number h (inr (e, inr (q, l))) = omega arith
 
-lower-earlier : (r : Refusal) (number : ℕ) → number < r .number → Earlier (refusal number (r .side) (r .index)) r
+lower-earlier : (r : Refusal) (number : ℕ) → rank number < rank (r .number) → Earlier (refusal number (r .side) (r .index)) r
 lower-earlier r number h =
-    let l : number ≤ r .number = omega arith in
+    let l : rank number ≤ rank (r .number) = omega arith in
     ⊎-elim (λ e. inr (e, inr (refl, h))) (λ k. inl k) (eq-or-lt-of-le (stage-rises (r .side) number (r .number) l))
 
 -- # Verdicts one after the other
@@ -128,15 +161,15 @@ unbroken l ls number e = rw (e, and-false (eqb (l .number) number))
 lines-judge : (numbers : List ℕ) (side : Side) (index low high : ℕ) (ls : List Line) → inOrder numbers side low high ls ≡ true → Judges (Fault ls side index) (firstLine ls side index)
 lines-judge numbers side index low high [] ordered = λ r o. absurd (false≢true (o .2))
 lines-judge numbers side index low high (l ∷ ls) ordered =
-    go (l .broken) refl (lines-judge numbers side index (suc (l .number)) high ls rest)
+    go (l .broken) refl (lines-judge numbers side index (suc (rank (l .number))) high ls rest)
   where
-    rest : inOrder numbers side (suc (l .number)) high ls ≡ true
-    rest = both (fits numbers side low high (l .number)) (inOrder numbers side (suc (l .number)) high ls) ordered .1
+    rest : inOrder numbers side (suc (rank (l .number))) high ls ≡ true
+    rest = both (fits numbers side low high (l .number)) (inOrder numbers side (suc (rank (l .number))) high ls) ordered .1
 
-    not-before : (number : ℕ) → breaks (l ∷ ls) number ≡ true → l .number ≤ number
+    not-before : (number : ℕ) → breaks (l ∷ ls) number ≡ true → rank (l .number) ≤ rank number
     not-before number b =
-        ⊎-elim (λ (h : (eqb (l .number) number && l .broken) ≡ true). omega (arith, eqb-true (l .number) number (both (eqb (l .number) number) (l .broken) h .0)))
-        (λ (h : breaks ls number ≡ true). omega (arith, broken-fits numbers side (suc (l .number)) high ls number rest h .from))
+        ⊎-elim (λ (h : (eqb (l .number) number && l .broken) ≡ true). le-of-eq (ap rank (eqb-true (l .number) number (both (eqb (l .number) number) (l .broken) h .0))))
+        (λ (h : breaks ls number ≡ true). omega (arith, broken-fits numbers side (suc (rank (l .number))) high ls number rest h .from))
         (either (eqb (l .number) number && l .broken) (breaks ls number) b)
 
     first : (r : Refusal) → Earlier r (refusal (l .number) side index) → Fault (l ∷ ls) side index r → ⊥
@@ -191,12 +224,12 @@ between false k l h e = omega arith
 stage-tells : (number : ℕ) (a b : Side) → stageAt a number ≡ stageAt b number → a ≡ b
 stage-tells number Record Record e = refl
 stage-tells number Record Part e = absurd (omega arith)
-stage-tells number Record Neither e = absurd (between (ltb number 3) 2 (omega arith) (omega arith) e)
+stage-tells number Record Neither e = absurd (between (ltb (rank number) 4) 2 (omega arith) (omega arith) e)
 stage-tells number Part Record e = absurd (omega arith)
 stage-tells number Part Part e = refl
-stage-tells number Part Neither e = absurd (between (ltb number 3) 1 (omega arith) (omega arith) e)
-stage-tells number Neither Record e = absurd (between (ltb number 3) 2 (omega arith) (omega arith) (sym e))
-stage-tells number Neither Part e = absurd (between (ltb number 3) 1 (omega arith) (omega arith) (sym e))
+stage-tells number Part Neither e = absurd (between (ltb (rank number) 4) 1 (omega arith) (omega arith) e)
+stage-tells number Neither Record e = absurd (between (ltb (rank number) 4) 2 (omega arith) (omega arith) (sym e))
+stage-tells number Neither Part e = absurd (between (ltb (rank number) 4) 1 (omega arith) (omega arith) (sym e))
 stage-tells number Neither Neither e = refl
 
 same-refusal : (number number′ : ℕ) (side side′ : Side) (index index′ : ℕ) → number ≡ number′ → side ≡ side′ → index ≡ index′ → refusal number side index ≡ refusal number′ side′ index′
@@ -211,9 +244,9 @@ no-earlier r q f g =
     let c : ¬ (r .index < q .index) = λ l. f (inr (s, inl l)) in
     let d : ¬ (q .index < r .index) = λ l. g (inr (sym s, inl l)) in
     let i : r .index ≡ q .index = omega (arith, c, d) in
-    let h : ¬ (r .number < q .number) = λ l. f (inr (s, inr (i, l))) in
-    let k : ¬ (q .number < r .number) = λ l. g (inr (sym s, inr (sym i, l))) in
-    let n : r .number ≡ q .number = omega (arith, h, k) in
+    let h : ¬ (rank (r .number) < rank (q .number)) = λ l. f (inr (s, inr (i, l))) in
+    let k : ¬ (rank (q .number) < rank (r .number)) = λ l. g (inr (sym s, inr (sym i, l))) in
+    let n : r .number ≡ q .number = rank-tells (r .number) (q .number) (omega (arith, h, k)) in
     let e : r .side ≡ q .side = stage-tells (r .number) (r .side) (q .side) (s ∙ ap (λ m. stageAt (q .side) m) (sym n)) in
     same-refusal (r .number) (q .number) (r .side) (q .side) (r .index) (q .index) n e i
 
@@ -234,10 +267,10 @@ firstOf t =
     ⊳ firstLine (t .after) Neither 0
 
 pub record Ordered (numbers : List ℕ) (t : Table) : Type 0 where
-  pub before : inOrder numbers Neither 1 3 (t .before) ≡ true
-  pub parts : (i : ℕ) → inOrder numbers Part 3 7 (t .ofPart i) ≡ true
-  pub records : (i : ℕ) → inOrder numbers Record 3 7 (t .ofRecord i) ≡ true
-  pub after : inOrder numbers Neither 7 10 (t .after) ≡ true
+  pub before : inOrder numbers Neither 1 4 (t .before) ≡ true
+  pub parts : (i : ℕ) → inOrder numbers Part 4 8 (t .ofPart i) ≡ true
+  pub records : (i : ℕ) → inOrder numbers Record 4 8 (t .ofRecord i) ≡ true
+  pub after : inOrder numbers Neither 8 11 (t .after) ≡ true
 
 module _ (numbers : List ℕ) (t : Table) (ordered : Ordered numbers t) where
   abbrev Before : Offences
@@ -254,14 +287,14 @@ module _ (numbers : List ℕ) (t : Table) (ordered : Ordered numbers t) where
 
   staged-before : (r : Refusal) → Before r → stage r ≤ 0
   staged-before r o =
-      let h : r .number < 3 = broken-fits numbers Neither 1 3 (t .before) (r .number) (ordered .before) (o .2) .below in
-      rw (o .0, lt-ltb (r .number) 3 h) (omega arith)
+      let h : rank (r .number) < 4 = broken-fits numbers Neither 1 4 (t .before) (r .number) (ordered .before) (o .2) .below in
+      rw (o .0, lt-ltb (rank (r .number)) 4 h) (omega arith)
 
   staged-after : (r : Refusal) → After r → 2 < stage r
   staged-after r o =
-      let h : 7 ≤ r .number = broken-fits numbers Neither 7 10 (t .after) (r .number) (ordered .after) (o .2) .from in
-      let l : 3 ≤ r .number = omega arith in
-      rw (o .0, le-ltb (r .number) 3 l) (omega arith)
+      let h : 8 ≤ rank (r .number) = broken-fits numbers Neither 8 11 (t .after) (r .number) (ordered .after) (o .2) .from in
+      let l : 4 ≤ rank (r .number) = omega arith in
+      rw (o .0, le-ltb (rank (r .number)) 4 l) (omega arith)
 
   staged-records : (r : Refusal) → Records r → stage r ≡ 2
   staged-records r o = ap (λ s. stageAt s (r .number)) (o .0)
@@ -303,22 +336,22 @@ module _ (numbers : List ℕ) (t : Table) (ordered : Ordered numbers t) where
       same-judges (Either Before (Either Parts (Either Records After))) (Offends t) (firstOf t) listed (λ r. parted (r .number) (r .side) (r .index))
       (then-judges Before (Either Parts (Either Records After)) (firstLine (t .before) Neither 0) (parts ⊳ records ⊳ after)
       (by-stage Before (Either Parts (Either Records After)) 0 staged-before from-parts)
-      (lines-judge numbers Neither 0 1 3 (t .before) (ordered .before))
+      (lines-judge numbers Neither 0 1 4 (t .before) (ordered .before))
       (then-judges Parts (Either Records After) parts (records ⊳ after)
       (by-stage Parts (Either Records After) 1 (λ r o. omega (arith, staged-parts r o)) from-records)
-      (over-judges numbers Part 3 7 (t .ofPart) (ordered .parts) (λ n m. refl) (t .parts) 0)
+      (over-judges numbers Part 4 8 (t .ofPart) (ordered .parts) (λ n m. refl) (t .parts) 0)
       (then-judges Records After records after
       (by-stage Records After 2 (λ r o. omega (arith, staged-records r o)) staged-after)
-      (over-judges numbers Record 3 7 (t .ofRecord) (ordered .records) (λ n m. refl) (t .records) 0)
-      (lines-judge numbers Neither 0 7 10 (t .after) (ordered .after)))))
+      (over-judges numbers Record 4 8 (t .ofRecord) (ordered .records) (λ n m. refl) (t .records) 0)
+      (lines-judge numbers Neither 0 8 11 (t .after) (ordered .after)))))
 
   offence-listed : (number : ℕ) (side : Side) (index : ℕ) → Offends t (refusal number side index) → (member numbers number ≡ true) × (member (sideNumbers side) number ≡ true)
   offence-listed number Neither index (i, b) =
-      ⊎-elim (λ h. told (broken-fits numbers Neither 1 3 (t .before) number (ordered .before) h))
-      (λ h. told (broken-fits numbers Neither 7 10 (t .after) number (ordered .after) h))
+      ⊎-elim (λ h. told (broken-fits numbers Neither 1 4 (t .before) number (ordered .before) h))
+      (λ h. told (broken-fits numbers Neither 8 11 (t .after) number (ordered .after) h))
       (either (breaks (t .before) number) (breaks (t .after) number) (sym (breaks-append (t .before) (t .after) number) ∙ b))
-  offence-listed number Part index (h, b) = told (broken-fits numbers Part 3 7 (t .ofPart index) number (ordered .parts index) b)
-  offence-listed number Record index (h, b) = told (broken-fits numbers Record 3 7 (t .ofRecord index) number (ordered .records index) b)
+  offence-listed number Part index (h, b) = told (broken-fits numbers Part 4 8 (t .ofPart index) number (ordered .parts index) b)
+  offence-listed number Record index (h, b) = told (broken-fits numbers Record 4 8 (t .ofRecord index) number (ordered .records index) b)
 
   judges-carries : (v : Verdict) → Judges (Offends t) v → Carries numbers t v
   judges-carries Accepted j = tt
@@ -333,6 +366,6 @@ module _ (numbers : List ℕ) (t : Table) (ordered : Ordered numbers t) where
       record {
         first = j;
         only = λ w q. judges-unique (Offends t) w v q j;
-        lower = λ r f number l o. (subst (Judges (Offends t)) f j) .1 (refusal number (r .side) (r .index)) (lower-earlier r number l) o;
+        lower = λ r f ten number l o. (subst (Judges (Offends t)) f j) .1 (refusal number (r .side) (r .index)) (lower-earlier r number (rank-rises number (r .number) ten l)) o;
         carries = judges-carries v j;
       }

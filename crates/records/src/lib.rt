@@ -10,6 +10,7 @@ pub use judge::is_khmer;
 pub use judge::is_outside;
 pub use judge::is_sign;
 use judge::judge_lengths;
+pub use judge::refused;
 use sets::judge_each;
 use sets::judge_shape;
 use sets::judge_signs;

@@ -1,4 +1,5 @@
 // The answer to one line.
+use crate::breaks::lent;
 use crate::out;
 use crate::out::Buffer;
 use crate::refusals::refusal;
@@ -13,7 +14,7 @@ use words::WordState;
 use words::WordStep;
 
 // The first n cells, one blank between.
-fn cells(to: &mut Buffer, at: usize, answers: &[u8; CELLS], n: usize) -> usize {
+pub(crate) fn cells(to: &mut Buffer, at: usize, answers: &[u8; CELLS], n: usize) -> usize {
     let mut end = at;
     let mut i: usize = 0;
     while i < n {
@@ -46,7 +47,7 @@ fn flag(b: bool) -> u8 {
 }
 
 // "first,prev,prevent,count"
-fn state(to: &mut Buffer, at: usize, s: WordState) -> usize {
+pub(crate) fn state(to: &mut Buffer, at: usize, s: WordState) -> usize {
     let mut end = out::put(to, at, flag(s.first));
     end = out::put(to, end, b',');
     end = out::decimal(to, end, s.previous as u64);
@@ -114,6 +115,14 @@ pub(crate) fn answer(to: &mut Buffer, at: usize, line: &[u8], number: u64) -> us
             next,
         } => {
             let end = word_step(to, at, s.step(class, pictograph, next));
+            out::put(to, end, b'\n')
+        }
+        Line::Lent {
+            strength,
+            own,
+            task,
+        } => {
+            let end = lent(to, at, line, strength, own, task);
             out::put(to, end, b'\n')
         }
     }

@@ -1,5 +1,6 @@
 // Cases from standard input, one a line; one line of answers for each.
 mod answers;
+mod breaks;
 mod clusters;
 mod out;
 mod refusals;

@@ -1,4 +1,5 @@
 // Arrays of zeros, each from a function of its own: where one is made, its length is all that a proof sees.
+use cases::Table;
 ghost use mathlib.Core.Path.{_≡_};
 ghost use lib.ListN.{length};
 ghost use Rattle.cases.specs.Items.{tooMany};
@@ -26,6 +27,10 @@ pub(crate) fn column32() -> [u32; COLUMN]
     ensures { λ r. ⌜ tooMany ≡ length r ⌝ }
 {
     [0; COLUMN]
+}
+
+pub(crate) fn table() -> Table {
+    [0; 11307]
 }
 
 pub(crate) fn cells8() -> [u8; CELLS]

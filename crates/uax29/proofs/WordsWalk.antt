@@ -3,15 +3,15 @@
 use Prim.Native.Nat.{ℕ, zero, suc, _+_, _-_, _<_, _≤_}
 use mathlib.Core.Path.{_≡_, refl, sym, _∙_, ap}
 use mathlib.Core.Bool.{Bool, true, false, cond}
-use mathlib.Core.List.{List, _∷_, _++_, append-assoc}
+use mathlib.Core.List.{List, _∷_}
 use native.Mathlib.Omega.{arith}
 use native.Mathlib.Numerals.{add-one}
-use lib.ListN.{length, drop, set, length-append}
-use lib.Seq.{drop-cons, set-at}
+use lib.ListN.{length, set}
+use Rattle.basics.proofs.Columns.{Written, written-more}
 use Rattle.classes.specs.WordBreak.{Other}
 use Rattle.records.specs.Text.{cell}
 use Rattle.uax29.specs.Rules.{Item, among, itemAt, beforeOf, itemsFrom}
-use Rattle.uax29.specs.Words.{passed, boundaryAt, boundaries}
+use Rattle.uax29.specs.Words.{passed, boundaryAt}
 use Rattle.uax29.specs.declared.words.Seen.{Seen}
 use Rattle.uax29.specs.declared.words.Set.the-variants.{Ignored}
 use Rattle.uax29.specs.WordsSeen.{holds, decided, after, seenAt, ahead}
@@ -53,27 +53,13 @@ module _ (words pictographs : List ℕ) where
       let e : length words - i ≡ suc (length words - (i + 1)) = omega arith in
       rw (e, decides (beforeOf words pictographs i) (itemAt words pictographs i) (itemsFrom words pictographs (i + 1) (length words - (i + 1))), seen-is i, ahead-is (length words - (i + 1)) (i + 1))
 
-  boundaries-length : (n : ℕ) → length (boundaries words pictographs n) ≡ n
-  unfolding boundaries
-  boundaries-length zero = refl
-  boundaries-length (suc n) = simp (length-append, boundaries-length n) (omega arith)
-
-  -- the cells after the first i records
-  abbrev pub Cells : List ℕ → ℕ → List ℕ → Type 0
-  Cells out₀ i out = out ≡ boundaries words pictographs i ++ drop i out₀
-
-  cells-more : (out₀ out : List ℕ) (i : ℕ) → i < length out₀ → Cells out₀ i out → Cells out₀ (i + 1) (set out i (boundaryAt words pictographs i))
-  unfolding boundaries
-  cells-more out₀ out i h e =
-      rw (add-one i, append-assoc, e, drop-cons out₀ i 0 h) (set-at (boundaries words pictographs i) _ _ _ i (boundaries-length i))
-
   -- the code's turn at record i: what each call said
   pub turn-cells : (i b mark next answer : ℕ) (s : Seen) (test : Bool) (out₀ out : List ℕ)
       → s ≡ seenAt words i → b ≡ cell words i → mark ≡ cell pictographs i → next ≡ ahead words (i + 1) (length words - (i + 1)) → test ≡ decided s b mark next → answer ≡ cond test 1 0
-      → i < length words → i < length out₀ → Cells out₀ i out → Cells out₀ (i + 1) (set out i answer)
+      → i < length words → i < length out₀ → Written (boundaryAt words pictographs) out₀ i out → Written (boundaryAt words pictographs) out₀ (i + 1) (set out i answer)
   turn-cells i b mark next answer s test out₀ out es eb em en et ea lw lo cells =
       let a : answer ≡ boundaryAt words pictographs i = ea ∙ rw (et, es, eb, em, en) (sym (boundary-is i lw)) in
-      rw a (cells-more out₀ out i lo cells)
+      rw a (written-more (boundaryAt words pictographs) out₀ out i lo cells)
 
 pub turn-seen : (words : List ℕ) (i b : ℕ) (s r : Seen) → s ≡ seenAt words i → b ≡ cell words i → r ≡ after s b → r ≡ seenAt words (i + 1)
 unfolding seenAt

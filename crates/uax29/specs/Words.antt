@@ -4,6 +4,7 @@ use Prim.Native.Nat.{ℕ, zero, suc, min}
 use mathlib.Core.List.{List, _++_, [], _∷_, map}
 use mathlib.Core.Bool.{Bool, false, cond, not, _&&_}
 use lib.ListN.{length, drop}
+use Rattle.basics.specs.Columns.{cells}
 use Rattle.classes.specs.WordBreak.{CR, LF, ZWJ, WSegSpace, HL, NU, SQ, DQ, KA, EX, RI, NL, Extend, FO, ALetter, ML, MidNumLet, MN}
 use Rattle.uax29.specs.Rules.{Item, is, isNot, among, pictographic, Rule, anything, edge, any, one, next, pairs, _÷_, _⨯_, decide, beforeOf, afterOf}
 
@@ -180,9 +181,8 @@ unfoldable pub boundaryAt : List ℕ → List ℕ → ℕ → ℕ
 boundaryAt words pictographs i = cond (decide rules (beforeOf words pictographs i) (afterOf words pictographs i)) 1 0
 
 -- the same of the first n records; the boundary at the text's end does not belong to the answer (SCOPE 8.2)
-unfoldable pub boundaries : List ℕ → List ℕ → ℕ → List ℕ
-boundaries words pictographs zero = []
-boundaries words pictographs (suc i) = boundaries words pictographs i ++ (boundaryAt words pictographs i ∷ [])
+abbrev pub boundaries : List ℕ → List ℕ → ℕ → List ℕ
+boundaries words pictographs = cells (boundaryAt words pictographs)
 
 -- what stands in a lent column: the answers to as many records as there are cells for; the other cells keep their content
 abbrev pub boundaryCells : List ℕ → List ℕ → List ℕ → List ℕ

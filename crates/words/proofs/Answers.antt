@@ -1,50 +1,23 @@
 -- A turn of the run: the state and the cells after one record more.
 -- Assumes nothing.
-use Prim.Native.Nat.{ℕ, zero, suc, _+_, _<_, _≤_}
+use Prim.Native.Nat.{ℕ, _+_, _<_, _≤_}
 use mathlib.Core.Path.{_≡_, refl, sym, _∙_, ap}
-use mathlib.Core.List.{List, [], _++_, append-assoc}
-use mathlib.Core.Logic.{⊎-elim}
-use native.Mathlib.Nat.{eq-or-lt-of-le}
-use native.Mathlib.Omega.{arith}
+use mathlib.Core.List.{List}
 use native.Mathlib.Numerals.{add-one}
-use lib.ListN.{length, drop, set, length-append, List·getD-append}
-use lib.Seq.{drop-cons, set-at, getD-at}
+use lib.ListN.{length, set}
+use Rattle.basics.proofs.Columns.{Written, written-more}
 use Rattle.records.specs.Text.{cell}
 use Rattle.words.specs.declared.WordState.{WordState}
 use Rattle.words.specs.declared.WordStep.{WordStep}
 use Rattle.words.specs.declared.Next.{Next}
 use Rattle.words.specs.Rules.{ruled}
-use Rattle.words.specs.Run.{nextAt, stateAt, answerAt, answers, runVerdict, runCells}
+use Rattle.words.specs.Run.{nextAt, stateAt, answerAt, runVerdict, runCells}
 use Rattle.records.specs.Refusals.{refusal, wordVerdict}
 use Rattle.records.specs.declared.Side.the-variants.{Neither}
 use Rattle.records.specs.declared.Refusal.{Refusal}
 use Rattle.records.specs.declared.Verdict.{Verdict}
 use Rattle.records.specs.declared.Verdict.the-variants.{Accepted, Refused}
 use borrow.Author.Tests.{lt-ltb, le-ltb}
-
-pub answers-length : (words pictographs : List ℕ) (n : ℕ) → length (answers words pictographs n) ≡ n
-unfolding answers
-answers-length words pictographs zero = refl
-answers-length words pictographs (suc n) = simp (length-append, answers-length words pictographs n) (omega arith)
-
-pub answers-cell : (words pictographs : List ℕ) (n i : ℕ) → i < n → cell (answers words pictographs n) i ≡ answerAt words pictographs i
-unfolding answers
-answers-cell words pictographs zero i h = absurd (omega arith)
-answers-cell words pictographs (suc n) i h =
-    let at-most : i ≤ n = omega arith in
-    ⊎-elim
-    (λ e. rw e (getD-at (answers words pictographs n) _ [] 0 n (answers-length words pictographs n)))
-    (λ l. List·getD-append (answers words pictographs n) _ 0 i (rw (answers-length words pictographs n) l) ∙ answers-cell words pictographs n i l)
-    (eq-or-lt-of-le at-most)
-
--- the cells after the first i records
-abbrev pub Cells : List ℕ → List ℕ → List ℕ → ℕ → List ℕ → Type 0
-Cells words pictographs out₀ i out = out ≡ answers words pictographs i ++ drop i out₀
-
-cells-more : (words pictographs out₀ out : List ℕ) (i : ℕ) → i < length out₀ → Cells words pictographs out₀ i out → Cells words pictographs out₀ (i + 1) (set out i (answerAt words pictographs i))
-unfolding answers
-cells-more words pictographs out₀ out i h e =
-    rw (add-one i, append-assoc, e, drop-cons out₀ i 0 h) (set-at (answers words pictographs i) _ _ _ i (answers-length words pictographs i))
 
 -- the call of `check_word` at record i, its arguments read from the columns
 module _ (words pictographs : List ℕ) (i : ℕ) (s : WordState) (at : s ≡ stateAt words pictographs i)
@@ -56,10 +29,10 @@ module _ (words pictographs : List ℕ) (i : ℕ) (s : WordState) (at : s ≡ st
   unfolding stateAt
   turn-state = ap (λ (r : WordStep). r .state) here ∙ ap (stateAt words pictographs) (sym (add-one i))
 
-  pub turn-cells : (out₀ out : List ℕ) → i < length out₀ → Cells words pictographs out₀ i out → Cells words pictographs out₀ (i + 1) (set out i (step .answer))
+  pub turn-cells : (out₀ out : List ℕ) → i < length out₀ → Written (answerAt words pictographs) out₀ i out → Written (answerAt words pictographs) out₀ (i + 1) (set out i (step .answer))
   turn-cells out₀ out h cells =
       let a : step .answer ≡ answerAt words pictographs i = unfold answerAt in ap (λ (r : WordStep). r .answer) here in
-      rw a (cells-more words pictographs out₀ out i h cells)
+      rw a (written-more (answerAt words pictographs) out₀ out i h cells)
 
 -- the run's verdict and cells, where v is what the check said
 module _ (words pictographs out : List ℕ) (v : Verdict) (e : v ≡ wordVerdict words pictographs) where
@@ -75,6 +48,6 @@ module _ (words pictographs out : List ℕ) (v : Verdict) (e : v ≡ wordVerdict
   unfolding runVerdict
   ran-short h short = rw (← e, h, lt-ltb _ _ short) (refl, refl)
 
-  pub ran-whole : (cells : List ℕ) → v ≡ Accepted → length words ≤ length out → Cells words pictographs out (length words) cells → Ran Accepted cells
+  pub ran-whole : (cells : List ℕ) → v ≡ Accepted → length words ≤ length out → Written (answerAt words pictographs) out (length words) cells → Ran Accepted cells
   unfolding runVerdict
   ran-whole cells h long k = rw (← e, h, le-ltb _ _ long) (refl, k)

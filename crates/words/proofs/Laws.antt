@@ -7,9 +7,9 @@ use mathlib.Core.List.{List}
 use native.Mathlib.Omega.{arith}
 use native.Mathlib.Numerals.{add-one}
 use lib.Dec.{ltb}
-use lib.ListN.{length, drop, List·getD-append, List·getD-eq-default}
-use lib.Seq.{getD-append-add, getD-drop}
+use lib.ListN.{length, List·getD-eq-default}
 use borrow.Author.Tests.{lt-leb, le-ltb, ltb-false}
+use Rattle.basics.proofs.Columns.{written-cell, kept-cell}
 use Rattle.classes.specs.WordBreak as WordBreak
 use Rattle.records.specs.Text.{cell}
 use Rattle.records.specs.Refusals.{wordVerdict}
@@ -23,9 +23,8 @@ use Rattle.words.specs.declared.Next.{Next}
 use Rattle.words.specs.declared.Next.the-variants.{Class, End}
 use Rattle.words.specs.Rules.{exitOf, leaves, ruled}
 use Rattle.words.specs.Step.{badState, stepVerdict, stepOf}
-use Rattle.words.specs.Run.{nextAt, stepFrom, stateAt, answerAt, answers, runVerdict, runCells}
+use Rattle.words.specs.Run.{nextAt, stepFrom, stateAt, answerAt, runVerdict, runCells}
 use Rattle.words.proofs.Accepted.{fine, fine-class, fine-next}
-use Rattle.words.proofs.Answers.{answers-length, answers-cell}
 use Rattle.words.proofs.Effects.{leaves-bit, leaves-class, leaves-accepts, leaves-small, exit-small}
 
 -- WB1: the answer is 1, of any state that is first, whatever comes, and so of every run.
@@ -130,15 +129,11 @@ module _ (words pictographs out : List ℕ) where
 
   pub record-cell : (i : ℕ) → i < length words → runVerdict words pictographs (length out) ≡ Accepted → cell (runCells words pictographs out) i ≡ answerAt words pictographs i
   record-cell i h e =
-      rw e
-      (List·getD-append (answers words pictographs (length words)) _ 0 i (rw (answers-length words pictographs (length words)) h)
-      ∙ answers-cell words pictographs (length words) i h)
+      rw e (written-cell (answerAt words pictographs) out (length words) i h)
 
   pub later-cell : (k : ℕ) → runVerdict words pictographs (length out) ≡ Accepted → cell (runCells words pictographs out) (length words + k) ≡ cell out (length words + k)
   later-cell k e =
-      rw e
-      (rw (answers-length words pictographs (length words)) at (getD-append-add (answers words pictographs (length words)) (drop (length words) out) k 0)
-      ∙ getD-drop (length words) out k 0)
+      rw e (kept-cell (answerAt words pictographs) out (length words) k)
 
 -- no two results fulfil the contracts (SCOPE 10)
 pub word-step-unique : (s : WordState) (class pictograph : ℕ) (next : Next) (a b : WordStep) → a ≡ stepOf s class pictograph next → b ≡ stepOf s class pictograph next → a ≡ b

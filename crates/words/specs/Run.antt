@@ -1,9 +1,10 @@
 -- The word run: the step over two columns from the start state on.
 use Prim.Native.Nat.{ℕ, zero, suc, _+_}
 use mathlib.Core.Bool.{cond}
-use mathlib.Core.List.{List, [], _∷_, _++_}
+use mathlib.Core.List.{List, _++_}
 use lib.Dec.{ltb}
 use lib.ListN.{length, drop}
+use Rattle.basics.specs.Columns.{cells}
 use Rattle.records.specs.Text.{cell}
 use Rattle.records.specs.Refusals.{refuse, _⊳_, wordVerdict}
 use Rattle.records.specs.declared.Side.the-variants.{Neither}
@@ -34,9 +35,8 @@ unfoldable pub answerAt : List ℕ → List ℕ → ℕ → ℕ
 answerAt words pictographs i = stepFrom words pictographs (stateAt words pictographs i) i .answer
 
 -- the answers to the first n records
-unfoldable pub answers : List ℕ → List ℕ → ℕ → List ℕ
-answers words pictographs zero = []
-answers words pictographs (suc i) = answers words pictographs i ++ (answerAt words pictographs i ∷ [])
+abbrev pub answers : List ℕ → List ℕ → ℕ → List ℕ
+answers words pictographs = cells (answerAt words pictographs)
 
 -- the word run, "over the columns word class and pictograph alone": 1, 2, 4, 9 (SCOPE 5.5); 9 is "fewer than 1 for each record"
 unfoldable pub runVerdict : List ℕ → List ℕ → ℕ → Verdict

@@ -24,7 +24,8 @@ pub fn is_bad_record(class: u8, pictograph: u8, next: Next) -> bool
 }
 
 impl Next {
-    pub(crate) fn is_outside(self) -> bool
+    // Whether there is a next record, with a class outside the list.
+    pub fn is_outside(self) -> bool
         ensures { λ r. ⌜ r ≡ outside (nextCodes self) ⌝ }
     {
         match self {
@@ -35,7 +36,8 @@ impl Next {
 }
 
 impl WordState {
-    pub(crate) fn is_bad(self) -> bool
+    // Whether no run has the state: the step refuses it.
+    pub fn is_bad(self) -> bool
         ensures { λ r. ⌜ r ≡ badState self ⌝ }
     {
         if is_outside(self.previous, word_break::LEN) {

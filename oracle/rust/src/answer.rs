@@ -1,9 +1,9 @@
 //! Answers in the form that the cases ask for.
 
 use crate::case::{Case, Kind};
+use crate::lines::word_item;
 use crate::text::cluster::{CharCluster, Emoji, Parser, Whitespace};
-use crate::text::words::{self, Record, State};
-use crate::text::WordBreak;
+use crate::text::{words, Record, State, WordBreak};
 use std::fmt::Write;
 
 pub fn of(case: &Case) -> String {
@@ -18,6 +18,7 @@ pub fn of(case: &Case) -> String {
         }
         Case::Run(records) => words::run(records).iter().map(|&answer| digit(answer)).collect::<Vec<_>>().join(" "),
         Case::Step { state, record, next } => step(*state, *record, *next),
+        Case::Line(case) => case.answer(),
     }
 }
 
@@ -68,8 +69,5 @@ fn step(state: State, record: Record, next: Option<WordBreak>) -> String {
         return "! the flags change the answer".to_string();
     }
     let (answer, after) = one;
-    format!(
-        "{};{},{},{},{}",
-        answer as u8, after.first as u8, after.prev as u8, after.prevent_next as u8, after.count
-    )
+    format!("{};{}", answer as u8, word_item(after))
 }

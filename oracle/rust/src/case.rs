@@ -1,11 +1,13 @@
-//! The lines of cases in crate mode. `None` for all that is not the oracle's business; whether
+//! The lines of cases in crate mode, of words and of lines. `None` for all that is not the oracle's business; whether
 //! a text is accepted (SCOPE 5) is said here a second time, without the refusal's number.
 
+use crate::lines::{self, LineCase};
 use crate::text::cluster::{CharInfo, Token};
-use crate::text::words::{Record as WordRecord, State};
-use crate::text::{Category, ClusterBreak, MyanmarClass, Part, Parts, Properties, Script, UseClass, WordBreak};
+use crate::text::{
+    Category, ClusterBreak, LineBreak, MyanmarClass, Part, Parts, Properties, Record, Script, State, UseClass, WordBreak,
+};
 
-const LONGEST: usize = 4096;
+pub const LONGEST: usize = 4096;
 
 #[derive(Copy, Clone, PartialEq, Eq)]
 pub enum Kind {
@@ -16,8 +18,9 @@ pub enum Kind {
 
 pub enum Case {
     Clusters { kind: Kind, feed: Vec<Token>, tokens: usize },
-    Run(Vec<WordRecord>),
-    Step { state: State, record: WordRecord, next: Option<WordBreak> },
+    Run(Vec<Record>),
+    Step { state: State, record: Record, next: Option<WordBreak> },
+    Line(LineCase),
 }
 
 pub fn read(line: &str) -> Option<Case> {
@@ -25,6 +28,7 @@ pub fn read(line: &str) -> Option<Case> {
     match fields[..] {
         ["W", cells, records] => run(cells, records),
         ["w", state, record, next] => step(state, record, next),
+        ["l" | "n" | "L", ..] => lines::read(&fields).map(Case::Line),
         [parser, "crate", script, place, records, parts] => {
             clusters(kind(parser, script)?, number::<u16>(place)?.into(), records, parts)
         }
@@ -43,13 +47,17 @@ fn kind(parser: &str, script: &str) -> Option<Kind> {
 }
 
 fn run(cells: &str, records: &str) -> Option<Case> {
-    let records: Vec<WordRecord> = items(records).map(word_record).collect::<Option<_>>()?;
+    let records: Vec<Record> = items(records).map(word_record).collect::<Option<_>>()?;
     let cells: usize = number::<u16>(cells)?.into();
     (records.len() <= LONGEST.min(cells)).then_some(Case::Run(records))
 }
 
 fn step(state: &str, record: &str, next: &str) -> Option<Case> {
-    let fields: Vec<&str> = state.split(',').collect();
+    Some(Case::Step { state: word_state(state)?, record: word_record(record)?, next: following(next)? })
+}
+
+pub fn word_state(item: &str) -> Option<State> {
+    let fields: Vec<&str> = item.split(',').collect();
     let [first, prev, prevent_next, count] = fields[..] else {
         return None;
     };
@@ -59,16 +67,21 @@ fn step(state: &str, record: &str, next: &str) -> Option<Case> {
         prevent_next: mark(prevent_next)?,
         count: number(count)?,
     };
-    let next = match next {
-        "-" => None,
-        class => Some(WordBreak::from_code(number(class)?)?),
-    };
-    (state.count <= 2).then_some(Case::Step { state, record: word_record(record)?, next })
+    (state.count <= 2).then_some(state)
 }
 
-fn word_record(item: &str) -> Option<WordRecord> {
+/// The class of the record after, if there is one.
+pub fn following(item: &str) -> Option<Option<WordBreak>> {
+    match item {
+        "-" => Some(None),
+        class => Some(Some(WordBreak::from_code(number(class)?)?)),
+    }
+}
+
+fn word_record(item: &str) -> Option<Record> {
     let (class, pictograph) = item.split_once(',')?;
-    Some(WordRecord { class: WordBreak::from_code(number(class)?)?, pictograph: mark(pictograph)? })
+    let word = WordBreak::from_code(number(class)?)?;
+    Some(Record { line: LineBreak::default(), word, pictograph: mark(pictograph)? })
 }
 
 fn clusters(kind: Kind, place: usize, records: &str, parts: &str) -> Option<Case> {
@@ -116,6 +129,7 @@ fn record(index: usize, item: &str, parts: &[Part], kind: Kind) -> Option<Token>
         word: WordBreak::from_code(number(word)?)?,
         pictograph: mark(pictograph)?,
         token: index,
+        ..Properties::default()
     };
     let (first, count) = (usize::from(number::<u16>(first)?), usize::from(number::<u8>(count)?));
     let own = parts.get(first..first + count).filter(|own| own.len() <= 3)?;
@@ -205,7 +219,7 @@ impl Kind {
     }
 }
 
-fn items(field: &str) -> impl Iterator<Item = &str> {
+pub fn items(field: &str) -> impl Iterator<Item = &str> {
     field.split(' ').filter(move |_| !field.is_empty())
 }
 
@@ -213,7 +227,7 @@ fn character(digits: &str) -> Option<char> {
     unsigned(digits).and_then(|digits| char::from_u32(u32::from_str_radix(digits, 16).ok()?))
 }
 
-fn number<N: std::str::FromStr>(digits: &str) -> Option<N> {
+pub fn number<N: std::str::FromStr>(digits: &str) -> Option<N> {
     unsigned(digits).and_then(|digits| digits.parse().ok())
 }
 
@@ -222,7 +236,7 @@ fn unsigned(digits: &str) -> Option<&str> {
     (!digits.starts_with('+')).then_some(digits)
 }
 
-fn mark(digits: &str) -> Option<bool> {
+pub fn mark(digits: &str) -> Option<bool> {
     match number::<u8>(digits)? {
         0 => Some(false),
         1 => Some(true),

@@ -1,4 +1,4 @@
-//! The judge of crate mode: the parsers of swash 0.2.10, unchanged, over lent columns.
+//! The judge of crate mode, of words and of lines: the files of swash 0.2.10, unchanged, over lent columns.
 //! Reads cases from standard input and prints one line of answers for each. Lines that are
 //! not its business (whole mode, full runs, texts that are refused (SCOPE 5), lines not of the
 //! layout) are answered `-`.
@@ -9,6 +9,7 @@ mod answer;
 mod case;
 #[cfg(feature = "coverage")]
 mod coverage;
+mod lines;
 mod text;
 
 use std::io::{self, BufRead, BufWriter, Write};

@@ -12,6 +12,8 @@ pub struct Properties {
     pub category: Category,
     pub word: WordBreak,
     pub pictograph: bool,
+    /// The line class by number.
+    pub line: u8,
 }
 
 /// The parts of a character that has some.

@@ -1,5 +1,5 @@
-use borrow.Author.Needs.{needs}
 use Rattle.lines.proofs.RunLaws.{ran-refused, ran-short, ran-whole}
+use borrow.Author.Needs.{needs}
 use Rattle.lines.proofs.run.Statement.{statement}
 use Rattle.lines.proofs.run.Tie as tie
 
@@ -15,8 +15,11 @@ enum-told-2 c = search needs
 returns : tie.Need-returns
 returns c = ran-refused _ _ _ _ _ _ _ (c .before .before .check .ensures) _ (c .enum-told2 .given .1)
 
+refused-requires : tie.Need-refused-requires
+refused-requires c κs = search needs
+
 returns-2 : tie.Need-returns-2
-returns-2 c = ran-short _ _ _ _ _ _ _ (c .before .before .before .check .ensures) (c .before .enum-told .given .1) (c .if1 .taken)
+returns-2 c = ran-short _ _ _ _ _ _ _ (c .before .before .before .before .check .ensures) _ (c .refused .ensures) (c .before .before .enum-told .given .1) (c .before .if1 .taken)
 
 run-requires : tie.Need-run-requires
 run-requires c κs = search needs
@@ -33,4 +36,14 @@ returns-3 c = ran-whole _ _ _ _ _ (c .before .before .before .before .before .be
 pub run-spec : {M : Type 1} → statement M
 run-spec =
     tie.close
-    (tie.spec check-requires enum-told enum-told-2 returns returns-2 run-requires lay-requires same-length returns-3)
+    (tie.spec
+    check-requires
+    enum-told
+    enum-told-2
+    returns
+    refused-requires
+    returns-2
+    run-requires
+    lay-requires
+    same-length
+    returns-3)

@@ -2,15 +2,17 @@ use Prim.Native.Nat.{_≤_, _-_}
 use mathlib.Core.Path.{_≡_, refl}
 use lib.ListN.{length}
 use native.Mathlib.Omega.{arith}
-use Rattle.words.specs.Run.{stateAt, answers}
-use Rattle.words.proofs.Answers.{Cells, turn-state, turn-cells}
+use Rattle.basics.specs.Columns.{cells}
+use Rattle.basics.proofs.Columns.{Written}
+use Rattle.words.specs.Run.{stateAt, answerAt}
+use Rattle.words.proofs.Answers.{turn-state, turn-cells}
 use borrow.Author.Needs.{needs}
 use Rattle.words.proofs.write_answers.Statement.{statement}
 use Rattle.words.proofs.write_answers.Tie as tie
 
 abbrev Inv-loop : tie.InvT-loop
 Inv-loop words pictographs out₀ state₀ i₀ out state i =
-    (i ≤ length words) × ((length out ≡ length out₀) × ((state ≡ stateAt words pictographs i) × Cells words pictographs out₀ i out))
+    (i ≤ length words) × ((length out ≡ length out₀) × ((state ≡ stateAt words pictographs i) × Written (answerAt words pictographs) out₀ i out))
 
 abbrev μ-loop : tie.MeasureT-loop
 μ-loop words pictographs out₀ state₀ i₀ out state i = length words - i
@@ -19,7 +21,7 @@ start-requires : tie.Need-start-requires Inv-loop μ-loop
 start-requires c κs = search needs
 
 loop-holds : tie.Need-loop-holds Inv-loop μ-loop
-loop-holds c = unfold stateAt answers in (search needs, (refl, (c .start .ensures, refl)))
+loop-holds c = unfold stateAt cells in (search needs, (refl, (c .start .ensures, refl)))
 
 add-next-at : tie.Need-add-next-at Inv-loop μ-loop
 add-next-at c = search needs

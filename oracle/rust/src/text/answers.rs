@@ -4,10 +4,6 @@ use super::lent::Properties;
 use super::{LineBreak, UseClass, WordBreak};
 
 impl Properties {
-    pub fn of_word(word: WordBreak, pictograph: bool) -> Self {
-        Self { word, pictograph, ..Self::default() }
-    }
-
     /// A part is never split, and as a token it is no emoji (SCOPE 2.1, 3.1).
     pub fn use_class(&self) -> (UseClass, bool, bool) {
         (self.use_class, false, false)
@@ -22,7 +18,7 @@ impl Properties {
     }
 
     pub fn line_break(&self) -> LineBreak {
-        LineBreak::XX
+        self.line
     }
 
     pub fn bidi_class(&self) -> BidiClass {

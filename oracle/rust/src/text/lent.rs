@@ -1,9 +1,9 @@
 //! Where the Rust asks a bare character for its properties or its decomposition, a character
 //! isn't enough: two records may have one scalar and other columns. So what is asked next is
 //! lent here just before: the parts of a record when its USE class is asked (`Tokens::next`
-//! does this directly before it decomposes), or the word columns for a word run.
+//! does this directly before it decomposes), or the columns of words and lines.
 
-use super::{Category, ClusterBreak, Codepoint, Decomposition, Part, UseClass, WordBreak};
+use super::{Category, ClusterBreak, Codepoint, Decomposition, LineBreak, Part, Record, UseClass, WordBreak};
 use std::cell::Cell;
 
 #[derive(Copy, Clone, Default)]
@@ -13,6 +13,7 @@ pub struct Properties {
     pub category: Category,
     pub word: WordBreak,
     pub pictograph: bool,
+    pub line: LineBreak,
     /// The token's number in the stream, so that a pushed token says its place.
     pub token: usize,
 }
@@ -55,12 +56,12 @@ impl Parts {
 #[derive(Copy, Clone)]
 pub enum Lent {
     Parts(Parts),
-    /// A word record is a character of its own: class and mark, as `words::record` makes it.
-    Words,
+    /// A record is a character of its own, as `Record::character` makes it.
+    Records,
 }
 
 thread_local! {
-    static LENT: Cell<Lent> = const { Cell::new(Lent::Words) };
+    static LENT: Cell<Lent> = const { Cell::new(Lent::Records) };
 }
 
 impl Lent {
@@ -73,7 +74,7 @@ impl Codepoint for char {
     /// Of the next lent part, in order: the Rust asks each part once, U+17C1 included.
     fn properties(self) -> Properties {
         match LENT.get() {
-            Lent::Words => super::words::properties(self),
+            Lent::Records => Record::of_character(self).properties(),
             Lent::Parts(parts) => {
                 let first = parts.parts[..parts.len][0];
                 assert!(first.ch == self, "properties of another character than the lent part");

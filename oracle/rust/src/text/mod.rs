@@ -4,11 +4,16 @@
 mod answers;
 pub mod cluster;
 mod lent;
+mod lent_table;
+pub mod over_a_lent_table;
+mod record;
 mod unicode_data;
 pub mod words;
 
 pub use answers::{Codepoint, Decomposition, Part};
 pub use lent::{Lent, Parts, Properties};
+pub use lent_table::{LentTable, WIDTH};
+pub use record::{LineState, Record, State, Strength};
 pub use unicode_data::{Category, ClusterBreak, LineBreak, MyanmarClass, UseClass, WordBreak};
 
 /// Only Khmer makes a difference to the parsers.

@@ -1,4 +1,4 @@
-//! The lists of SCOPE 2.2 in their order, under the names that the Rust has for them.
+//! The lists of SCOPE 2.2 and 12.1 in their order, under the names that the Rust has for them.
 
 macro_rules! list {
     ($name:ident: $($value:ident)*) => {
@@ -6,7 +6,7 @@ macro_rules! list {
         pub enum $name { $($value),* }
 
         impl $name {
-            const ALL: &'static [Self] = &[$(Self::$value),*];
+            pub const ALL: &'static [Self] = &[$(Self::$value),*];
 
             pub fn from_code(code: u8) -> Option<Self> {
                 Self::ALL.get(code as usize).copied()
@@ -31,10 +31,5 @@ list!(UseClass: B CMAbv CMBlw CS FAbv FBlw FM FPst GB H HN IND MAbv MBlw MPre MP
 list!(MyanmarClass: A As C D D0 DB H IV J MH MR MW MY O P PT R S V VAbv VBlw VPre VPst VS WJ Rest);
 list!(Category: Other Format Control);
 list!(WordBreak: Other CR LF NL Extend ZWJ FO WSegSpace LE HL ML MB MN NU SQ DQ KA EX RI);
-
-/// Only named by `check_line`, which is left out for now.
-#[derive(Copy, Clone, PartialEq, Eq)]
-pub enum LineBreak {
-    AI, AL, B2, BA, BB, BK, CB, CJ, CL, CM, CP, CR, EB, EM, EX, GL, H2, H3, HL, HY, ID, IN, IS, JL,
-    JT, JV, LF, NL, NS, NU, OP, PO, PR, QU, RI, SA, SG, SP, SY, WJ, XX, ZW, ZWJ,
-}
+list!(LineBreak: AI AL B2 BA BB BK CB CJ CL CM CP CR EB EM EX GL H2 H3 HL HY ID IN IS JL JT JV LF
+    NL NS NU OP PO PR QU RI SA SG SP SY WJ XX ZW ZWJ);

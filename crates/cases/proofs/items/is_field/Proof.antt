@@ -27,6 +27,30 @@ enum-told-4 c = search needs
 is-state-field-requires : tie.Need-is-state-field-requires
 is-state-field-requires c κs = search needs
 
+enum-told-5 : tie.Need-enum-told-5
+enum-told-5 c = search needs
+
+fits-requires-2 : tie.Need-fits-requires-2
+fits-requires-2 c κs = search needs
+
+enum-told-6 : tie.Need-enum-told-6
+enum-told-6 c = search needs
+
+is-row-field-requires : tie.Need-is-row-field-requires
+is-row-field-requires c κs = search needs
+
+enum-told-7 : tie.Need-enum-told-7
+enum-told-7 c = search needs
+
+is-dash-or-requires : tie.Need-is-dash-or-requires
+is-dash-or-requires c κs = search needs
+
+enum-told-8 : tie.Need-enum-told-8
+enum-told-8 c = search needs
+
+is-cell-field-requires : tie.Need-is-cell-field-requires
+is-cell-field-requires c κs = search needs
+
 returns : tie.Need-returns
 returns c = search kinds
 
@@ -38,6 +62,18 @@ returns-3 c = search kinds
 
 returns-4 : tie.Need-returns-4
 returns-4 c = search kinds
+
+returns-5 : tie.Need-returns-5
+returns-5 c = search kinds
+
+returns-6 : tie.Need-returns-6
+returns-6 c = search kinds
+
+returns-7 : tie.Need-returns-7
+returns-7 c = search kinds
+
+returns-8 : tie.Need-returns-8
+returns-8 c = search kinds
 
 pub is-field-spec : {M : Type 1} → statement M
 is-field-spec =
@@ -51,7 +87,19 @@ is-field-spec =
     fits-requires
     enum-told-4
     is-state-field-requires
+    enum-told-5
+    fits-requires-2
+    enum-told-6
+    is-row-field-requires
+    enum-told-7
+    is-dash-or-requires
+    enum-told-8
+    is-cell-field-requires
     returns
     returns-2
     returns-3
-    returns-4)
+    returns-4
+    returns-5
+    returns-6
+    returns-7
+    returns-8)

@@ -3,7 +3,7 @@ use denote.Ref.{now}
 use Prim.Native.Nat.{_≤_, _-_, min}
 use mathlib.Core.Path.{_≡_, refl}
 use lib.ListN.{length, take}
-use Rattle.cases.specs.Items.{cells}
+use Rattle.basics.specs.Columns.{cells}
 use Rattle.label.specs.Said.{saidAt}
 use Rattle.label.proofs.Columns.{classed-more}
 use borrow.Author.Needs.{needs}

@@ -1,29 +1,20 @@
 use Rattle.lines.specs.Refusals.{stepVerdict}
-use Rattle.records.proofs.Chain.{verdicts}
+use Rattle.lines.proofs.Arms.{judged-of}
 use borrow.Author.Needs.{needs}
 use Rattle.lines.proofs.LineState.judge.Statement.{statement}
 use Rattle.lines.proofs.LineState.judge.Tie as tie
 
-is-bad-table-requires : tie.Need-is-bad-table-requires
-is-bad-table-requires c κs = search needs
-
-returns : tie.Need-returns
-returns c = unfold stepVerdict in search verdicts depth 8
-
 is-outside-requires : tie.Need-is-outside-requires
 is-outside-requires c κs = search needs
-
-returns-2 : tie.Need-returns-2
-returns-2 c = unfold stepVerdict in search verdicts depth 8
 
 is-bad-requires : tie.Need-is-bad-requires
 is-bad-requires c κs = search needs
 
-returns-3 : tie.Need-returns-3
-returns-3 c = unfold stepVerdict in search verdicts depth 8
+judge-step-requires : tie.Need-judge-step-requires
+judge-step-requires c κs = search needs
 
-returns-4 : tie.Need-returns-4
-returns-4 c = unfold stepVerdict in search verdicts depth 8
+returns : tie.Need-returns
+returns c = unfold stepVerdict in search judged-of
 
 pub judge-spec : {M : Type 1} → statement M
-judge-spec = tie.close (tie.spec is-bad-table-requires returns is-outside-requires returns-2 is-bad-requires returns-3 returns-4)
+judge-spec = tie.close (tie.spec is-outside-requires is-bad-requires judge-step-requires returns)

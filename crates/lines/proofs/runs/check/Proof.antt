@@ -1,5 +1,5 @@
+use Rattle.lines.proofs.RunLaws.{check-shape, check-table, check-records, check-listed}
 use borrow.Author.Needs.{needs}
-use Rattle.lines.proofs.RunLaws.{check-shape, check-table, check-records}
 use Rattle.lines.proofs.runs.check.Statement.{statement}
 use Rattle.lines.proofs.runs.check.Tie as tie
 
@@ -18,8 +18,14 @@ returns c = check-shape _ _ _ _ _ (c .before .before .judge-columns .ensures) _ 
 is-bad-table-requires : tie.Need-is-bad-table-requires
 is-bad-table-requires c κs = search needs
 
+refused-requires : tie.Need-refused-requires
+refused-requires c κs = search needs
+
 returns-2 : tie.Need-returns-2
 returns-2 c = search check-table
+
+is-unlisted-requires : tie.Need-is-unlisted-requires
+is-unlisted-requires c κs = search needs
 
 judge-records-requires : tie.Need-judge-records-requires
 judge-records-requires c κs = search needs
@@ -27,7 +33,21 @@ judge-records-requires c κs = search needs
 returns-3 : tie.Need-returns-3
 returns-3 c = search check-records
 
+returns-4 : tie.Need-returns-4
+returns-4 c = search check-listed
+
 pub check-spec : {M : Type 1} → statement M
 check-spec =
     tie.close
-    (tie.spec judge-columns-requires enum-told enum-told-2 returns is-bad-table-requires returns-2 judge-records-requires returns-3)
+    (tie.spec
+    judge-columns-requires
+    enum-told
+    enum-told-2
+    returns
+    is-bad-table-requires
+    refused-requires
+    returns-2
+    is-unlisted-requires
+    judge-records-requires
+    returns-3
+    returns-4)

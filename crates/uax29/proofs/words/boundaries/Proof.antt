@@ -2,16 +2,18 @@ use Prim.Native.Nat.{_≤_, _-_}
 use mathlib.Core.Path.{_≡_, refl}
 use lib.ListN.{length}
 use native.Mathlib.Omega.{arith}
-use Rattle.uax29.specs.Words.{boundaries}
+use Rattle.basics.specs.Columns.{cells}
+use Rattle.basics.proofs.Columns.{Written}
+use Rattle.uax29.specs.Words.{boundaryAt}
 use Rattle.uax29.specs.WordsSeen.{seenAt}
-use Rattle.uax29.proofs.WordsWalk.{Cells, turn-seen, turn-cells}
+use Rattle.uax29.proofs.WordsWalk.{turn-seen, turn-cells}
 use borrow.Author.Needs.{needs}
 use Rattle.uax29.proofs.words.boundaries.Statement.{statement}
 use Rattle.uax29.proofs.words.boundaries.Tie as tie
 
 abbrev Inv-loop : tie.InvT-loop
 Inv-loop words pictographs out₀ n seen₀ i₀ out seen i =
-    (i ≤ n) × ((length out ≡ length out₀) × ((seen ≡ seenAt words i) × Cells words pictographs out₀ i out))
+    (i ≤ n) × ((length out ≡ length out₀) × ((seen ≡ seenAt words i) × Written (boundaryAt words pictographs) out₀ i out))
 
 abbrev μ-loop : tie.MeasureT-loop
 μ-loop words pictographs out₀ n seen₀ i₀ out seen i = n - i
@@ -20,7 +22,7 @@ shorter-requires : tie.Need-shorter-requires Inv-loop μ-loop
 shorter-requires c κs = search needs
 
 loop-holds : tie.Need-loop-holds Inv-loop μ-loop
-loop-holds c = unfold seenAt boundaries in (omega arith, (refl, (refl, refl)))
+loop-holds c = unfold seenAt cells in (omega arith, (refl, (refl, refl)))
 
 cell8-requires : tie.Need-cell8-requires Inv-loop μ-loop
 cell8-requires c κs = search needs

@@ -1,0 +1,19 @@
+use Rattle.basics.proofs.Choices.{chains}
+use borrow.Author.Needs.{needs}
+use Rattle.lines.proofs.BoundaryState.is_bad.Statement.{statement}
+use Rattle.lines.proofs.BoundaryState.is_bad.Tie as tie
+
+is-bad-requires : tie.Need-is-bad-requires
+is-bad-requires c κs = search needs
+
+returns : tie.Need-returns
+returns c = search chains
+
+is-bad-requires-2 : tie.Need-is-bad-requires-2
+is-bad-requires-2 c κs = search needs
+
+returns-2 : tie.Need-returns-2
+returns-2 c = search chains
+
+pub is-bad-spec : {M : Type 1} → statement M
+is-bad-spec = tie.close (tie.spec is-bad-requires returns is-bad-requires-2 returns-2)

@@ -1,0 +1,39 @@
+-- A loop that keeps the greatest value decides whether any value is at or above a limit. Assumes nothing.
+use Prim.Native.Nat.{ℕ, _+_, _<_, _≤_}
+use mathlib.Core.Path.{_≡_, sym, _∙_, ap}
+use mathlib.Core.Bool.{_||_, or-assoc, or-false}
+use mathlib.Core.List.{List}
+use native.Mathlib.Numerals.{add-one}
+use native.Mathlib.Omega.{arith}
+use lib.Dec.{leb, ltb}
+use lib.ListN.{length, getD, drop, drop-of-length-le}
+use lib.Seq.{drop-cons}
+use borrow.Author.Tests.{leb-true, le-leb, lt-leb, ltb-true, ltb-false}
+use Rattle.basics.specs.Sets.{any}
+use Rattle.basics.proofs.Tests.{by-test}
+use Rattle.lines.specs.Inner.{larger}
+
+reached : (n a b : ℕ) → leb n (larger a b) ≡ (leb n a || leb n b)
+reached n a b = by-test (ltb a b) (λ l. rw l (upper (ltb-true a b l))) (λ l. rw l (lower (ltb-false a b l)))
+  where
+    upper : a < b → leb n b ≡ (leb n a || leb n b)
+    upper l = by-test (leb n a) (λ h. rw h (le-leb n b (omega (arith, leb-true n a h)))) (λ h. rw h)
+
+    lower : b ≤ a → leb n a ≡ (leb n a || leb n b)
+    lower l = by-test (leb n b) (λ h. rw (h, le-leb n a (omega (arith, leb-true n b h)))) (λ h. rw h (sym (or-false (leb n a))))
+
+-- most is the greatest of the values so far: it and what is left decide
+module _ (f : ℕ → ℕ) (limit : ℕ) (xs : List ℕ) where
+  abbrev pub Swept : ℕ → ℕ → Type 0
+  Swept i most = (leb limit most || any (λ v. leb limit (f v)) (drop i xs)) ≡ any (λ v. leb limit (f v)) xs
+
+  pub swept-none : 0 < limit → Swept 0 0
+  swept-none h = rw (lt-leb limit 0 h)
+
+  pub swept-more : (i most value q : ℕ) → i < length xs → value ≡ f (getD xs i 0) → q ≡ larger most value → Swept i most → Swept (i + 1) q
+  swept-more i most value q h ev eq s =
+      rw (eq, reached limit most value, ev, or-assoc (leb limit most) (leb limit (f (getD xs i 0))) (any (λ v. leb limit (f v)) (drop (i + 1) xs)), add-one i)
+      (sym (ap (λ ys. leb limit most || any (λ v. leb limit (f v)) ys) (drop-cons xs i 0 h)) ∙ s)
+
+  pub swept-all : (i most : ℕ) → length xs ≤ i → Swept i most → leb limit most ≡ any (λ v. leb limit (f v)) xs
+  swept-all i most h s = sym (or-false (leb limit most)) ∙ (rw (drop-of-length-le xs h) at s)
