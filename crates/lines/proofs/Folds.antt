@@ -30,6 +30,7 @@ use Rattle.words.proofs.Laws.{answer-bit, run-folds}
 use Rattle.lines.specs.LineBreak as LineBreak
 use Rattle.lines.specs.Rules.{boundaryCode, lineAnswer, lineAfter, orWord}
 use Rattle.lines.specs.Refusals.{rowsOf, badTable, badPrevious, badState, judged, stepVerdict, stepOf}
+use Rattle.lines.specs.NextStep as NextStep
 use Rattle.lines.specs.NextStep.{badRecord, nextVerdict, nextRuled, nextOf}
 use Rattle.lines.specs.Run.{stateAt, lineAt, boundaryAt, answerAt, judgeRecord, checkVerdict, runVerdict, runCells}
 use Rattle.lines.specs.declared.Strength.{Strength}
@@ -43,6 +44,11 @@ use Rattle.lines.proofs.RunLaws.{check-passes, one-length, words-accept
 -- both states before the record at an index
 abbrev pub bothAt : List ℕ → List ℕ → List ℕ → List ℕ → ℕ → BoundaryState
 bothAt table lines words pictographs i = record { line = stateAt table lines i; word = Words.stateAt words pictographs i }
+
+-- a run begins in the start states
+pub begins : (table lines words pictographs : List ℕ) → bothAt table lines words pictographs 0 ≡ NextStep.startState
+unfolding stateAt Words.stateAt
+begins table lines words pictographs = refl
 
 -- what the word step said where it accepted
 word-verdict : (s : WordState) (class pictograph : ℕ) (next : Next) (v : Verdict) → (Step.stepUnder v s class pictograph next) .verdict ≡ Accepted → v ≡ Accepted
@@ -61,7 +67,7 @@ module _ (table lines words pictographs : List ℕ) (accepted : checkVerdict tab
       over-each (λ k. judgeRecord (cell lines k) (cell words k) (cell pictographs k) k) (length lines) 0 (check-passes table lines words pictographs accepted .1 .1) i (omega arith) (omega arith) in
       neither (leb LineBreak.len (cell lines i)) (outside (coded (cell words i) WordBreak.len ∷ mark (cell pictographs i) ∷ [])) (unrefused _ 4 Record i one) .0
 
-  -- "A text of class 0 to 42 and any accepted table never leaves the rows."
+  -- No state of a run leaves the rows of its table (SCOPE 12.1).
   pub state-rows : (i : ℕ) → stateAt table lines i .row < rowsOf table
   unfolding stateAt
   state-rows zero = enough-rows table good-table

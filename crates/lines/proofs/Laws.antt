@@ -10,24 +10,28 @@ use lib.ListN.{length, getD}
 use borrow.Author.Tests.{leb-true, leb-false, ltb-false}
 use Rattle.basics.specs.Choices.{_⇒_▹_}
 use Rattle.basics.specs.Sets.{any, member}
-use Rattle.basics.proofs.Tests.{by-test, neither}
+use Rattle.basics.proofs.Tests.{by-test, if-intro, neither}
 use Rattle.records.specs.Text.{cell}
 use Rattle.records.specs.declared.Verdict.{Verdict}
 use Rattle.records.specs.declared.Verdict.the-variants.{Accepted, Refused}
 use Rattle.records.proofs.Unique.{unique}
-use Rattle.lines.specs.LineBreak.{ZWJ}
-use Rattle.lines.specs.Rules.{boundaryCode, width, rowIn, isMandatory, isAllowed, pair, keptTogether, previousIn, leftOf, rightOf, asked, told, keeps, lineAnswer, lineAfter}
+use Rattle.lines.specs.LineBreak.{ID, ZWJ, len}
+use Rattle.lines.specs.Rules.{boundaryCode, width, rowIn, isMandatory, isAllowed, pair, asIdeographs, keptTogether, previousIn, leftOf, rightOf, asked, told, keeps, lineAnswer, lineAfter}
 use Rattle.lines.specs.Refusals.{rowsOf, badTable, stepVerdict, stepUnder, stepOf}
 use Rattle.lines.specs.declared.Strength.{Strength}
 use Rattle.lines.specs.declared.Strength.the-variants.{Normal, BreakAll, KeepAll}
-use Rattle.lines.specs.declared.Previous.{Previous}
+use Rattle.lines.specs.declared.Previous.the-variants.{Class}
 use Rattle.lines.specs.declared.Boundary.{Boundary}
 use Rattle.lines.specs.declared.Boundary.the-variants as Boundary
 use Rattle.lines.specs.declared.LineState.{LineState}
 use Rattle.lines.specs.declared.LineStep.{LineStep}
 
--- "Whatever the strength, the row that is stored is of the cell that Normal asks" (SCOPE 12.1): the state after a step is the same at
--- every strength, refused or not.
+-- "Whatever the strength, the row that is stored is of the cell that Normal asks" (SCOPE 12.1).
+pub stored-is : (table : List ℕ) (s : LineState) (class : ℕ) → lineAfter table s class ≡ record { row = rowIn (asked Normal table s class); previous = Class class }
+unfolding lineAfter
+stored-is table s class = refl
+
+-- So the state after a step is the same at every strength, refused or not.
 pub state-alike : (a b : Strength) (table : List ℕ) (s : LineState) (class : ℕ) → stepOf a table s class .state ≡ stepOf b table s class .state
 state-alike a b table s class = go (stepVerdict table s class)
   where
@@ -70,9 +74,31 @@ pub row-stays : (table : List ℕ) (s : LineState) (class : ℕ) → badTable ta
 unfolding lineAfter
 row-stays table s class good = named-row table good (s .row * width + class)
 
--- and the cell that it asks next is one of the table's
-pub pair-inside : (table : List ℕ) (row class : ℕ) → row < rowsOf table → class < width → row * width + class < length table
+-- the cell of a row of the table and a class is one of its cells
+pair-inside : (table : List ℕ) (row class : ℕ) → row < rowsOf table → class < width → row * width + class < length table
 pair-inside table row class h l = omega (arith, div-mul-le-self (length table) width)
+
+-- a value that is one of the table's cells
+pub record Inside (table : List ℕ) (v : ℕ) : Type 0 where
+  pub at : ℕ
+  pub within : at < length table
+  pub is : v ≡ cell table at
+
+-- The cell that is asked, at every strength, is one of the table's.
+module _ (table : List ℕ) (good : badTable table ≡ false) (s : LineState) (class : ℕ) (r : s .row < rowsOf table) (l : class < len) where
+  left-inside : leftOf s < rowsOf table
+  left-inside = if-intro (λ row. row < rowsOf table) (previousIn asIdeographs (s .previous)) ID (s .row) (λ h. omega (arith, enough-rows table good)) (λ h. r)
+
+  right-inside : rightOf class < width
+  right-inside = if-intro (λ c. c < width) (member asIdeographs class) ID class (λ h. omega arith) (λ h. omega (arith, l))
+
+  class-inside : class < width
+  class-inside = omega (arith, l)
+
+  pub asked-inside : (strength : Strength) → Inside table (asked strength table s class)
+  asked-inside Normal = record { at = s .row * width + class; within = pair-inside table (s .row) class r class-inside; is = refl }
+  asked-inside BreakAll = record { at = leftOf s * width + rightOf class; within = pair-inside table (leftOf s) (rightOf class) left-inside right-inside; is = refl }
+  asked-inside KeepAll = record { at = s .row * width + class; within = pair-inside table (s .row) class r class-inside; is = refl }
 
 -- # What each strength changes
 
@@ -91,33 +117,52 @@ module _ (table : List ℕ) (s : LineState) (class : ℕ) where
   unfolding lineAnswer
   break-all-is = refl
 
--- a line answer is never word, and behind ZWJ never line
-told-kinds : (v : ℕ) (p : Previous) → (told v p ≡ Boundary.Word → ⊥) × (told v p ≡ Boundary.Line → previousIn (ZWJ ∷ []) p ≡ false)
-told-kinds v p = go (isMandatory v) (isAllowed v) (previousIn (ZWJ ∷ []) p)
-  where
-    go : (m a z : Bool) → ((m ⇒ Boundary.Mandatory ▹ (a && not z) ⇒ Boundary.Line ▹ Boundary.None) ≡ Boundary.Word → ⊥) × ((m ⇒ Boundary.Mandatory ▹ (a && not z) ⇒ Boundary.Line ▹ Boundary.None) ≡ Boundary.Line → z ≡ false)
-    go true a z = (λ e. absurd (omega (arith, ap boundaryCode e)), λ e. absurd (omega (arith, ap boundaryCode e)))
-    go false false z = (λ e. absurd (omega (arith, ap boundaryCode e)), λ e. absurd (omega (arith, ap boundaryCode e)))
-    go false true true = (λ e. absurd (omega (arith, ap boundaryCode e)), λ e. absurd (omega (arith, ap boundaryCode e)))
-    go false true false = (λ e. absurd (omega (arith, ap boundaryCode e)), λ e. refl)
+-- what an answer comes from: whether KeepAll holds, whether the asked cell makes a break mandatory or allows one, whether ZWJ stands before
+abbrev chosen : Bool → Bool → Bool → Bool → Boundary
+chosen kept mandatory allowed zwj =
+    kept ⇒ Boundary.None
+    ▹ mandatory ⇒ Boundary.Mandatory
+    ▹ (allowed && not zwj) ⇒ Boundary.Line
+    ▹ Boundary.None
 
+not-word : (k m a z : Bool) → chosen k m a z ≡ Boundary.Word → ⊥
+not-word true m a z e = omega (arith, ap boundaryCode e)
+not-word false true a z e = omega (arith, ap boundaryCode e)
+not-word false false false z e = omega (arith, ap boundaryCode e)
+not-word false false true true e = omega (arith, ap boundaryCode e)
+not-word false false true false e = omega (arith, ap boundaryCode e)
+
+only-line : (k m a z : Bool) → chosen k m a z ≡ Boundary.Line → (k ≡ false) × ((m ≡ false) × ((a ≡ true) × (z ≡ false)))
+only-line true m a z e = absurd (omega (arith, ap boundaryCode e))
+only-line false true a z e = absurd (omega (arith, ap boundaryCode e))
+only-line false false false z e = absurd (omega (arith, ap boundaryCode e))
+only-line false false true true e = absurd (omega (arith, ap boundaryCode e))
+only-line false false true false e = (refl, (refl, (refl, refl)))
+
+only-mandatory : (k m a z : Bool) → chosen k m a z ≡ Boundary.Mandatory → (k ≡ false) × (m ≡ true)
+only-mandatory true m a z e = absurd (omega (arith, ap boundaryCode e))
+only-mandatory false true a z e = (refl, refl)
+only-mandatory false false false z e = absurd (omega (arith, ap boundaryCode e))
+only-mandatory false false true true e = absurd (omega (arith, ap boundaryCode e))
+only-mandatory false false true false e = absurd (omega (arith, ap boundaryCode e))
+
+-- Each answer is traced to its rule, at every strength: it is never word; it is line only where KeepAll does not hold, the cell that is
+-- asked makes no break mandatory and allows one, and no ZWJ stands before; mandatory only where KeepAll does not hold and the cell says so.
 module _ (strength : Strength) (table : List ℕ) (s : LineState) (class : ℕ) where
+  abbrev cell-asked : ℕ
+  cell-asked = asked strength table s class
+
   pub never-word : lineAnswer strength table s class ≡ Boundary.Word → ⊥
   unfolding lineAnswer
-  never-word = go (keeps strength s class)
-    where
-      go : (t : Bool) → (t ⇒ Boundary.None ▹ told (asked strength table s class) (s .previous)) ≡ Boundary.Word → ⊥
-      go true e = omega (arith, ap boundaryCode e)
-      go false e = told-kinds (asked strength table s class) (s .previous) .0 e
+  never-word = not-word (keeps strength s class) (isMandatory cell-asked) (isAllowed cell-asked) (previousIn (ZWJ ∷ []) (s .previous))
 
-  -- "After ZWJ an allowed break is none", at every strength
-  pub not-after-zwj : lineAnswer strength table s class ≡ Boundary.Line → previousIn (ZWJ ∷ []) (s .previous) ≡ false
+  pub line-traced : lineAnswer strength table s class ≡ Boundary.Line → (keeps strength s class ≡ false) × ((isMandatory cell-asked ≡ false) × ((isAllowed cell-asked ≡ true) × (previousIn (ZWJ ∷ []) (s .previous) ≡ false)))
   unfolding lineAnswer
-  not-after-zwj = go (keeps strength s class)
-    where
-      go : (t : Bool) → (t ⇒ Boundary.None ▹ told (asked strength table s class) (s .previous)) ≡ Boundary.Line → previousIn (ZWJ ∷ []) (s .previous) ≡ false
-      go true e = absurd (omega (arith, ap boundaryCode e))
-      go false e = told-kinds (asked strength table s class) (s .previous) .1 e
+  line-traced = only-line (keeps strength s class) (isMandatory cell-asked) (isAllowed cell-asked) (previousIn (ZWJ ∷ []) (s .previous))
+
+  pub mandatory-traced : lineAnswer strength table s class ≡ Boundary.Mandatory → (keeps strength s class ≡ false) × (isMandatory cell-asked ≡ true)
+  unfolding lineAnswer
+  mandatory-traced = only-mandatory (keeps strength s class) (isMandatory cell-asked) (isAllowed cell-asked) (previousIn (ZWJ ∷ []) (s .previous))
 
 -- no two results fulfil the contracts (SCOPE 10)
 pub line-step-unique : (strength : Strength) (table : List ℕ) (s : LineState) (class : ℕ) (a b : LineStep) → a ≡ stepOf strength table s class → b ≡ stepOf strength table s class → a ≡ b

@@ -97,7 +97,7 @@ lineAnswer strength table s class =
 unfoldable pub lineAfter : List ℕ → LineState → ℕ → LineState
 lineAfter table s class = record { row = rowIn (pair table (s .row) class); previous = Class class }
 
--- `next`, "where word stands only if the line answer is none"; the word machine's answer is 1 where a word boundary stands, else 0
+-- `next`: "the answer is the line answer, and word where that is none and the word machine answers 1" (SCOPE 12.1)
 abbrev pub orWord : Boundary → ℕ → Boundary
 orWord Boundary.None word = eqb word 1 ⇒ Boundary.Word ▹ Boundary.None
 orWord Boundary.Word word = Boundary.Word

@@ -369,3 +369,8 @@ module _ (numbers : List ℕ) (t : Table) (ordered : Ordered numbers t) where
         lower = λ r f ten number l o. (subst (Judges (Offends t)) f j) .1 (refusal number (r .side) (r .index)) (lower-earlier r number (rank-rises number (r .number) ten l)) o;
         carries = judges-carries v j;
       }
+
+-- A call that cannot give 10: of one side and index the smallest number is told, whatever it is.
+pub lower-number : (numbers : List ℕ) (t : Table) (v : Verdict) → member numbers 10 ≡ false → ByTable numbers t v → (r : Refusal) → v ≡ Refused r → (number : ℕ) → number < r .number → Offends t (refusal number (r .side) (r .index)) → ⊥
+lower-number numbers t v none told r e number =
+    told .lower r e (λ ten. false≢true (sym none ∙ ap (member numbers) (sym ten) ∙ subst (Carries numbers t) e (told .carries) .0)) number
