@@ -1,2 +1,4 @@
 pub mod Tables
 pub mod Listed
+pub mod Grammar
+pub mod Examples

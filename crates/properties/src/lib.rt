@@ -1,6 +1,9 @@
 // The Unicode property files: their value names, their lines, and range columns with their lookup.
+mod lines;
 mod names;
 
+pub use lines::line_of;
+pub use lines::value_in;
 pub use names::code_of;
 
 // Which of the two property files.
@@ -15,4 +18,14 @@ pub enum File {
 pub enum Value {
     Found(u8),
     Unknown,
+}
+
+// What a line of a property file holds.
+pub enum Line {
+    // blanks alone, or a comment
+    Skipped,
+    // 11
+    Malformed,
+    // the first and the last scalar; the two are one where the line has no dots
+    Range { first: u32, last: u32 },
 }

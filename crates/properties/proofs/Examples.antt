@@ -1,0 +1,77 @@
+-- Lines and values of which docs/DECISIONS.md speaks, each computed. Assumes nothing.
+use Prim.Native.Nat.{ℕ}
+use Prim.Native.String.{String}
+use mathlib.Core.Path.{_≡_, refl}
+use mathlib.Core.List.{List}
+use Rattle.basics.specs.Sets.{every}
+use Rattle.cases.specs.Numbers.{digitOf, numberFrom, numberOf}
+use Rattle.cases.specs.Spans.{before, upTo, after, agree, equal}
+use Rattle.properties.specs.declared.File.the-variants.{Cluster, Word}
+use Rattle.properties.specs.declared.Value.{Value}
+use Rattle.properties.specs.declared.Value.the-variants.{Found, Unknown}
+use Rattle.properties.specs.declared.Line.{Line}
+use Rattle.properties.specs.declared.Line.the-variants.{Skipped, Malformed, Range}
+use Rattle.properties.specs.Names.{ascii, among, codeOf}
+use Rattle.properties.specs.Lines.{isBlank, leading, ending, untailed, trimmed, withoutCR, bodyOf, scalarsOf, valueOf, isBetween, noValue, hex, firstOf, lastOf, lineOf, valueIn}
+
+read : String → Line
+read line = lineOf (ascii line)
+
+skipped-lines : (read "" ≡ Skipped) × (read " \t" ≡ Skipped) × (read "\r" ≡ Skipped) × (read "# @missing: 0000..10FFFF; Other" ≡ Skipped)
+unfolding read lineOf bodyOf withoutCR upTo before trimmed leading untailed ending isBlank
+skipped-lines = (refl, refl, refl, refl)
+
+read-lines : (read "0041;L" ≡ Range 0x41 0x41)
+    × (read "0041;L\r" ≡ Range 0x41 0x41)
+    × (read "0041;L#x" ≡ Range 0x41 0x41)
+    × (read "0041..005A    ; ALetter # L&  [26] LATIN CAPITAL LETTER A..Z" ≡ Range 0x41 0x5A)
+    × (read "\t00aB..00Ac\t;\tL" ≡ Range 0xAB 0xAC)
+    × (read "0041..0041;L" ≡ Range 0x41 0x41)
+    × (read "D800..DFFF ; Control" ≡ Range 0xD800 0xDFFF)
+    × (read "10FFFF;L" ≡ Range 0x10FFFF 0x10FFFF)
+    × (read "000000000000000000000000000041;L" ≡ Range 0x41 0x41)
+unfolding read lineOf bodyOf withoutCR upTo before after trimmed leading untailed ending isBlank scalarsOf valueOf isBetween noValue hex firstOf lastOf numberOf numberFrom digitOf
+read-lines = (refl, refl, refl, refl, refl, refl, refl, refl, refl)
+
+-- above 10FFFF, also far above; downward; blanks within; no digits; no value, two values, a third field; a CR within
+malformed-lines : (read "110000;L" ≡ Malformed)
+    × (read "100000041;L" ≡ Malformed)
+    × (read "100000000000000000000000000041;L" ≡ Malformed)
+    × (read "0042..0041;L" ≡ Malformed)
+    × (read "0041 .. 0042;L" ≡ Malformed)
+    × (read "0041...0042;L" ≡ Malformed)
+    × (read "0041.0042;L" ≡ Malformed)
+    × (read "0041..;L" ≡ Malformed)
+    × (read "U+0041;L" ≡ Malformed)
+    × (read "0x41;L" ≡ Malformed)
+    × (read ";L" ≡ Malformed)
+    × (read "0041" ≡ Malformed)
+    × (read "0041;" ≡ Malformed)
+    × (read "0041;L V" ≡ Malformed)
+    × (read "0041;L;x" ≡ Malformed)
+    × (read "0041;L\r0042;L\r" ≡ Malformed)
+unfolding read lineOf bodyOf withoutCR upTo before after trimmed leading untailed ending isBlank scalarsOf valueOf isBetween noValue hex firstOf lastOf numberOf numberFrom digitOf
+malformed-lines = (refl, refl, refl, refl, refl, refl, refl, refl, refl, refl, refl, refl, refl, refl, refl, refl)
+
+value-bytes : (valueIn (ascii "0041;L#x") ≡ ascii "L") × (valueIn (ascii "0041..005A    ; ALetter # L&") ≡ ascii "ALetter")
+unfolding valueIn valueOf bodyOf withoutCR upTo before after trimmed leading untailed ending isBlank
+value-bytes = (refl, refl)
+
+-- names of the file alone, long and in their own case
+cluster : String → Value
+cluster name = codeOf Cluster (ascii name)
+
+word : String → Value
+word name = codeOf Word (ascii name)
+
+values : (cluster "Control" ≡ Found 1)
+    × (cluster "CN" ≡ Unknown)
+    × (cluster "control" ≡ Unknown)
+    × (cluster "ALetter" ≡ Unknown)
+    × (word "ALetter" ≡ Found 8)
+    × (word "L" ≡ Unknown)
+    × (cluster "E_Base" ≡ Found 0)
+    × (word "Glue_After_Zwj" ≡ Found 0)
+    × (word "Glue_After_ZWJ" ≡ Unknown)
+unfolding cluster word codeOf among equal every agree
+values = (refl, refl, refl, refl, refl, refl, refl, refl, refl)
