@@ -2,3 +2,7 @@ pub mod Tables
 pub mod Listed
 pub mod Grammar
 pub mod Examples
+pub mod Orders
+pub mod Hits
+pub mod Fills
+pub mod Answers

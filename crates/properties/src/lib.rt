@@ -1,9 +1,12 @@
 // The Unicode property files: their value names, their lines, and range columns with their lookup.
 mod lines;
+mod lookups;
 mod names;
+mod ranges;
 
 pub use lines::line_of;
 pub use lines::value_in;
+pub use lookups::lookup;
 pub use names::code_of;
 
 // Which of the two property files.
