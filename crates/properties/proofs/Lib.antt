@@ -6,3 +6,4 @@ pub mod Orders
 pub mod Hits
 pub mod Fills
 pub mod Answers
+pub mod Rules

@@ -1,4 +1,5 @@
 pub mod Names
 pub mod Lines
+pub mod Rulings
 pub mod Ranges
 pub mod Inner

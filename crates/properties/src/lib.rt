@@ -3,11 +3,13 @@ mod lines;
 mod lookups;
 mod names;
 mod ranges;
+mod rulings;
 
 pub use lines::line_of;
 pub use lines::value_in;
 pub use lookups::lookup;
 pub use names::code_of;
+pub use rulings::ruling_of;
 
 // Which of the two property files.
 pub enum File {
@@ -31,4 +33,12 @@ pub enum Line {
     Malformed,
     // the first and the last scalar; the two are one where the line has no dots
     Range { first: u32, last: u32 },
+}
+
+// What a line says in a file.
+pub enum Ruling {
+    Nothing,
+    // 11 or 12
+    Refused(u8),
+    Range { first: u32, last: u32, code: u8 },
 }
