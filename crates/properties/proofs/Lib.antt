@@ -7,3 +7,5 @@ pub mod Hits
 pub mod Fills
 pub mod Answers
 pub mod Rules
+pub mod Meetings
+pub mod Outcomes

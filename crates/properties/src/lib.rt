@@ -1,10 +1,14 @@
 // The Unicode property files: their value names, their lines, and range columns with their lookup.
+mod checks;
 mod lines;
 mod lookups;
+mod meets;
 mod names;
 mod ranges;
 mod rulings;
+mod verdicts;
 
+pub use checks::check;
 pub use lines::line_of;
 pub use lines::value_in;
 pub use lookups::lookup;

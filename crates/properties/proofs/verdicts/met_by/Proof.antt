@@ -1,0 +1,45 @@
+use Rattle.properties.proofs.Meetings.{met-nothing, met-refused, met-first, met-later}
+use borrow.Author.Needs.{needs}
+use Rattle.properties.proofs.verdicts.met_by.Statement.{statement}
+use Rattle.properties.proofs.verdicts.met_by.Tie as tie
+
+enum-told : tie.Need-enum-told
+enum-told c = search needs
+
+enum-told-2 : tie.Need-enum-told-2
+enum-told-2 c = search needs
+
+enum-known-ruling : tie.Need-enum-known-ruling
+enum-known-ruling c = search needs
+
+met-held-requires : tie.Need-met-held-requires
+met-held-requires c κs = search needs
+
+returns : tie.Need-returns
+returns c = search met-first
+
+met-earlier-requires : tie.Need-met-earlier-requires
+met-earlier-requires c κs = search needs
+
+returns-2 : tie.Need-returns-2
+returns-2 c = search met-nothing
+
+returns-3 : tie.Need-returns-3
+returns-3 c = search met-refused
+
+returns-4 : tie.Need-returns-4
+returns-4 c = search met-later
+
+pub met-by-spec : {M : Type 1} → statement M
+met-by-spec =
+    tie.close
+    (tie.spec
+    enum-told
+    enum-told-2
+    enum-known-ruling
+    met-held-requires
+    returns
+    met-earlier-requires
+    returns-2
+    returns-3
+    returns-4)
