@@ -2,15 +2,22 @@
 use Prim.Native.Nat.{ℕ}
 use Prim.Native.String.{String}
 use mathlib.Core.Path.{_≡_, refl}
-use mathlib.Core.List.{List}
+use mathlib.Core.List.{List, [], _∷_}
 use Rattle.basics.specs.Sets.{every}
 use Rattle.cases.specs.Numbers.{digitOf, numberFrom, numberOf}
-use Rattle.cases.specs.Spans.{before, upTo, after, agree, equal}
+use Rattle.cases.specs.Spans.{before, upTo, after, rest, span, agree, equal}
+use Rattle.records.specs.Refusals.{refusal, over}
+use Rattle.records.specs.declared.Side.the-variants.{Neither}
+use Rattle.records.specs.declared.Verdict.{Verdict}
+use Rattle.records.specs.declared.Verdict.the-variants.{Accepted, Refused}
 use Rattle.properties.specs.declared.File.the-variants.{Cluster, Word}
 use Rattle.properties.specs.declared.Value.{Value}
 use Rattle.properties.specs.declared.Value.the-variants.{Found, Unknown}
 use Rattle.properties.specs.declared.Line.{Line}
 use Rattle.properties.specs.declared.Line.the-variants.{Skipped, Malformed, Range}
+use Rattle.properties.specs.Rulings.{rulingOf}
+use Rattle.properties.specs.Ranges.{ranges}
+use Rattle.properties.specs.Reading.{some, share, meetsLine, metHeld, metEarlier, metBy, takenBy, judgeLine, cellsOf, readVerdict}
 use Rattle.properties.specs.Names.{ascii, among, codeOf}
 use Rattle.properties.specs.Lines.{isBlank, leading, ending, untailed, trimmed, withoutCR, bodyOf, scalarsOf, valueOf, isBetween, noValue, hex, firstOf, lastOf, lineOf, valueIn}
 
@@ -75,3 +82,15 @@ values : (cluster "Control" ≡ Found 1)
     × (word "Glue_After_ZWJ" ≡ Unknown)
 unfolding cluster word codeOf among equal every agree
 values = (refl, refl, refl, refl, refl, refl, refl, refl, refl)
+
+-- two lines that share a scalar, and two that touch; a fourth line that is not looked at any more, since the third finds no cell
+said : List ℕ → String → Verdict
+said cells bytes = readVerdict Cluster (ranges cells cells cells 0) (ascii bytes)
+
+verdicts : (said (0 ∷ 0 ∷ 0 ∷ []) "0041;Other\n0041;L" ≡ Refused (refusal 13 Neither 2))
+    × (said (0 ∷ 0 ∷ []) "0041;L\n0042;L\n" ≡ Accepted)
+    × (said (0 ∷ 0 ∷ []) "0041;L\n0042;L\n0043;L\nx" ≡ Refused (refusal 14 Neither 3))
+    × (said (0 ∷ []) "0041;L\n#\n0041;l" ≡ Refused (refusal 12 Neither 3))
+    × (said [] "" ≡ Accepted)
+unfolding said readVerdict over judgeLine metBy metHeld metEarlier some share meetsLine takenBy cellsOf rulingOf span rest valueIn codeOf among equal every agree lineOf bodyOf withoutCR upTo before after trimmed leading untailed ending isBlank scalarsOf valueOf isBetween noValue hex firstOf lastOf numberOf numberFrom digitOf
+verdicts = (refl, refl, refl, refl, refl)
