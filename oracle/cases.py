@@ -8,14 +8,18 @@ import sys
 from functools import lru_cache, partial
 
 import line_reading
+import property_reading
 import reading
 from line_reading import LineState, Table
 from reading import Part, Record, Refusal, WordState
 
 PARSERS = {"s": "simple", "m": "myanmar", "c": "complex"}
-LARGEST = {"u8": 0xFF, "u16": 0xFFFF, "u32": 0xFFFFFFFF}
+# each file of properties by its letter, in the order of the answers
+PROPERTY_FILES = {"G": property_reading.CLUSTER_CODES, "W": property_reading.WORD_CODES}
+LARGEST = {"u8": 0xFF, "u16": 0xFFFF, "u32": 0xFFFFFFFF, "ranges": 4096}
 DECIMAL = re.compile("[0-9]+")
 HEXADECIMAL = re.compile("[0-9A-Fa-f]+")
+BYTES = re.compile("([0-9A-Fa-f]{2})*")
 
 
 class NotOfLayout(Exception):
@@ -107,6 +111,14 @@ def table(field):
     return line_reading.crate_table() if field == "crate" else Table(b"".join(items(field, run_of_cells)))
 
 
+def block(item):
+    """The letter of a file and bytes. `X:` is an XML document, which is not of the layout before Req 11."""
+    file, colon, digits = item.partition(":")
+    if file not in PROPERTY_FILES or not colon or not BYTES.fullmatch(digits):
+        raise NotOfLayout
+    return file, bytes.fromhex(digits)
+
+
 def refusal_line(refusal):
     return f"R {refusal.number} {refusal.index} {refusal.side}"
 
@@ -152,6 +164,16 @@ def step_line(states, answer):
     return ";".join([str(boundary), *map(state_item, after)])
 
 
+def ranges_item(held):
+    return ",".join(["%04X-%04X.%d" % range_ for range_ in held])
+
+
+def lookup_item(answer):
+    if isinstance(answer, Refusal):
+        return refusal_line(answer)
+    return " ".join(["%d,%d" % both for both in answer])
+
+
 def cluster_answer(kind, mode, script, place, records, parts):
     if mode not in (reading.CRATE, reading.WHOLE) or script not in ("-", "K"):
         raise NotOfLayout
@@ -189,9 +211,26 @@ def line_run_answer(strength_, table_, cells, records):
     return run_line(line_reading.line_run(strength(strength_), table(table_), *given))
 
 
+def property_answer(cells, blocks, out, scalars):
+    """Blocks one after another into two empty sets; one that is refused changes nothing."""
+    cells = dict(zip(PROPERTY_FILES, [number(each, "ranges") for each in fields(cells, 2)]))
+    blocks, out, scalars = items(blocks, block), number(out, "u16"), items(scalars, scalar)
+    held = {file: [] for file in PROPERTY_FILES}
+    verdicts = []
+    for file, data in blocks:
+        answer_ = property_reading.read(data, PROPERTY_FILES[file], held[file], cells[file])
+        if isinstance(answer_, Refusal):
+            verdicts.append(refusal_line(answer_))
+        else:
+            verdicts.append("ok")
+            held[file] = answer_
+    looked_up = property_reading.lookup(scalars, *held.values(), out)
+    return "|".join([*verdicts, *map(ranges_item, held.values()), lookup_item(looked_up)])
+
+
 # each kind with the number of its fields
 ANSWERS = {("W", 2): word_run_answer, ("w", 3): word_step_answer,
-           ("l", 4): line_step_answer, ("n", 6): next_step_answer, ("L", 4): line_run_answer,
+           ("l", 4): line_step_answer, ("n", 6): next_step_answer, ("L", 4): line_run_answer, ("F", 4): property_answer,
            **{(kind, 5): partial(cluster_answer, kind) for kind in "SMCsmc"}}
 
 
