@@ -1,7 +1,8 @@
 #!/usr/bin/env python3
 """Cases, seeded: random texts biased to the corners, exhaustive short texts, all word steps and line
-steps, damaged columns and tables, full runs (those of lines are in line_cases.py). Texts are in crate mode; `whole` turns a case into whole mode. Prints
-the cases of one part, one a line.
+steps, damaged columns and tables, full runs (those of lines are in line_cases.py), property files
+(in property_cases.py). Texts are in crate mode; `whole` turns a case into whole mode. Prints the cases
+of one part, one a line.
 """
 
 import argparse
@@ -11,6 +12,7 @@ from functools import lru_cache, partial
 from typing import NamedTuple
 
 import line_cases
+import property_cases
 from reading import CLUSTER_BREAK, KHMER_SIGNS, MYANMAR, USE, WORD, barred_joiner
 
 REST_USE, REST_MYANMAR = USE.index("rest"), MYANMAR.index("rest")
@@ -868,12 +870,12 @@ def replaced(item, length, at, other):
 RANDOM = {"S": random_simple, "M": random_myanmar, "C": random_complex, "W": random_words, "full": random_full_runs,
           "runs-s": partial(random_runs, simple_stock()), "runs-m": partial(random_runs, myanmar_stock()),
           "runs-c": partial(random_runs, complex_stock("-")), "runs-khmer": partial(random_runs, complex_stock("K")),
-          **line_cases.RANDOM}
+          **line_cases.RANDOM, **property_cases.RANDOM}
 FIXED = {"exhaustive-S": exhaustive_simple, "exhaustive-M": exhaustive_myanmar, "exhaustive-C": exhaustive_complex,
          "ordered-M": ordered_myanmar, "ordered-C": ordered_complex, "places": exhaustive_places,
          "steps": word_steps, "exhaustive-W": exhaustive_words, "refusals": refusals,
          "long": long_refusals, "layout": not_of_layout, "split-runs": split_runs,
-         "damaged-runs": damaged_runs, **line_cases.FIXED}
+         "damaged-runs": damaged_runs, **line_cases.FIXED, **property_cases.FIXED}
 
 
 def generate(part_, seed, count):

@@ -3,6 +3,7 @@ whole mode, for which there is no Rust, to crate mode."""
 
 import re
 
+NOT_OF_THE_RUST = ("F",)  # property files
 CALL = re.compile(r"(\d+)>(\d+):([^:]*):")
 
 
@@ -17,9 +18,9 @@ def stepping_twin(line):
 
 def rust_judgement(line, answer):
     """The Rust's answer for a line: `-` where the text is refused, None where the Rust has no
-    say (whole mode; a full run without room)."""
+    say (whole mode; kinds that it does not have; a full run without room)."""
     kind, *rest = line.split(";")
-    if rest[:1] == ["whole"]:
+    if rest[:1] == ["whole"] or kind in NOT_OF_THE_RUST:
         return None
     if kind not in ("s", "m", "c") or answer == "-":
         return answer

@@ -10,7 +10,9 @@ import unittest
 from unittest import mock
 
 import cases
+import comparison
 import loading
+import property_cases
 import rust_judge
 
 compare = loading.command("oracle/compare")
@@ -71,6 +73,26 @@ class Parts(unittest.TestCase):
         self.assertEqual([sizes[part][0] for part in ("l", "n", "L", "S")], [7, 7, 7, 10_000])
         self.assertEqual(len(sizes["exhaustive-l"]), 1)
         self.assertEqual(self.sizes()["n"][0], 200_000)
+
+    def test_property_files(self):
+        self.assertEqual(self.sizes("--files", "7")["F"][0], 7)
+        self.assertEqual((self.sizes()["F"][0], self.sizes("--short")["F"][0]), (100_000, 2_000))
+        self.assertEqual((len(self.sizes()["exhaustive-F"]), len(self.sizes("--short")["exhaustive-F"])), (27, 3))
+
+    def compared(self, *words):
+        """The names of the parts that are made."""
+        with (mock.patch.object(sys, "argv", ["compare", *words]),
+              mock.patch("comparison.compare_real", lambda _: 0)):
+            options = compare.parse_options()
+            judges = comparison.Comparison(None, None, options.kinds)
+            made = []
+            with mock.patch.object(judges, "part", lambda name, _: made.append(name) or 0):
+                compare.compared(judges, options)
+            return made
+
+    def test_property_files_have_to_be_asked_for(self):
+        self.assertFalse([name for name in self.compared() if name.endswith("F")])
+        self.assertLessEqual({*property_cases.RANDOM, *property_cases.FIXED}, set(self.compared("--kinds", "F")))
 
 
 class Sources(unittest.TestCase):

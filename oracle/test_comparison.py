@@ -9,6 +9,7 @@ from unittest import mock
 import cases
 import comparison
 import generate
+import property_cases
 import small_unicode
 from cases import answers as read
 from comparison import Comparison
@@ -24,10 +25,13 @@ REFUSED_RUN = RUN.replace("s;crate;-;2", "s;crate;-;1")
 WORDS = "W;4;2,0 18,0 18,0 18,0"
 LINES = "L;Normal;crate;3;1,8,0 37,7,0 1,8,0"
 LINE_STEP = "l;Normal;1935*0;44,-;1"
+FILES = "F;4,4;G:34313B4C;1;0041"
 
 
 def rust(lines):
-    return ["-" if answer[:2] in ("R ", "? ") else answer for answer in read(lines)]
+    """It has no say in property files."""
+    lines = list(lines)
+    return ["-" if answer[:2] in ("R ", "? ") or line[:1] == "F" else answer for line, answer in zip(lines, read(lines))]
 
 
 def changed(program, case, answer):
@@ -122,6 +126,18 @@ class Parts(unittest.TestCase):
         self.compare(judges, "W", WORDS)
         self.compare(judges, "exhaustive-S", TEXT)
         self.assertEqual(judges.differences, 2)
+
+    def test_property_files_where_they_are_asked_for(self):
+        """The program `replay` does not answer them yet."""
+        wrong = changed(third, FILES, "? 1")
+        self.assertNotIn("F", comparison.KINDS)
+        judges = Comparison(rust, wrong)
+        self.assertEqual(self.compare(judges, "F", FILES), (0, ""))
+        self.assertFalse(any(judges.may_have_chosen(part) for part in property_cases.RANDOM | property_cases.FIXED))
+        judges = Comparison(rust, third, kinds="F")
+        self.assertEqual(self.compare(judges, "F", FILES, TEXT), (1, "F: 1 cases, 0 by the Rust, 0 refused, 0 whole\n"))
+        self.assertEqual(judges.differences, 0)
+        self.assert_differs(Comparison(rust, wrong, kinds="F"), "F", FILES, "the program against the judges", "expected ok|0041-0041.4||4,0")
 
     def test_parts_that_there_are(self):
         self.assertLessEqual({*comparison.CLUSTER_PARTS, *comparison.RUN_PARTS}, {*generate.RANDOM, *generate.FIXED})

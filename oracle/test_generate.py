@@ -9,6 +9,7 @@ import generate
 import laws
 import line_cases
 import line_reading
+import property_cases
 import reading
 
 COUNT = 100
@@ -27,7 +28,7 @@ def refusal_numbers(lines):
 
 class Layout(unittest.TestCase):
     def test_every_part_but_one_is_of_the_layout(self):
-        for part in {*generate.RANDOM, *generate.FIXED} - {"layout", "line-layout", "long"}:
+        for part in {*generate.RANDOM, *generate.FIXED} - {"layout", "line-layout", "layout-F", "long", "sizes-F"}:
             for line in some(part):
                 with self.subTest(part, line=line[:200]):
                     cases.answer(line)
@@ -90,6 +91,17 @@ class Meant(unittest.TestCase):
         read = [cases.table(table) for table in tables]
         self.assertLessEqual({45, 64, 94}, {table.rows for table in read if table.is_sound})
         self.assertTrue(any(not table.is_sound and len(table.cells) % line_reading.WIDTH == 0 and table.rows >= 45 for table in read))
+
+    def test_property_files_of_every_sort(self):
+        answers = [cases.answer(line).split("|") for line in generate.generate("F", 1, 600)]
+        refused = [verdict.split(" ") for *verdicts, _, _, _ in answers for verdict in verdicts if verdict != "ok"]
+        self.assertEqual({number for _, number, _, _ in refused}, {"11", "12", "13", "14"})
+        self.assertTrue(any(int(line) > 9 for _, _, line, _ in refused))
+        self.assertEqual({lookup[:3] for *_, lookup in answers if lookup.startswith("R ")}, {"R 3", "R 9"})
+
+    def test_property_files_of_every_size(self):
+        blocks = [block for line in property_cases.sizes() for block in line.split(";")[2].split(" ")]
+        self.assertLessEqual({0xFFFF, 0x10000, 0x10001}, {len(block) // 2 - 1 for block in blocks})
 
     def test_every_word_step_once(self):
         steps = list(generate.word_steps())

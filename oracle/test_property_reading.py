@@ -1,12 +1,15 @@
 #!/usr/bin/env python3
-"""Property files: the corners with the answers that were written down by hand, the examples of the layout, and what a case
-cannot hold."""
+"""Property files: the corners with the answers that were written down by hand, the examples of the layout, what a case cannot hold, and
+that a reading in other words, by splitting instead of a pattern, has the same answers."""
 
+import itertools
 import pathlib
+import string
 import sys
 import unittest
 
 import cases
+import generate
 import property_cases
 import property_reading
 import reading
@@ -44,6 +47,13 @@ class Answers(unittest.TestCase):
             with self.subTest(line), self.assertRaises(cases.NotOfLayout):
                 cases.answer(line)
 
+    def test_not_of_the_layout(self):
+        of_layout = {line for line in property_cases.not_of_layout() if not next(cases.answers([line])).startswith("?")}
+        self.assertEqual(of_layout, {
+            "F;4,4;;0;", "F;4096,4096;;0;", "F;004,00004;;000;0041", "F;4,4;;65535;", "F;4,4;;1;0000000000000041", "F;4,4;;1;aB",
+            "F;4,4;G:34313B4C;1;0041", "F;4,4;G:34313B4C G:34313B4C;1;0041", "F;4,4;G:;1;0041", "F;4,4;W:;1;0041",
+            "F;4,4;G: W:;1;0041", "F;4,4;G:eFbBBf23;1;0041", "F;4,4;G:0a W:0D;1;0041"})
+
     def test_sizes(self):
         """65,536 bytes are read, one more is refused before all else."""
         whole = "41;L\n" + "#" * 0xFFFB
@@ -52,6 +62,10 @@ class Answers(unittest.TestCase):
             self.assertEqual(read(text, cells=0), Refusal(1))
         self.assertEqual(read("\n" * 0xFFFF + "x"), Refusal(11, 0x10000, "l"))
         self.assertEqual(read("0" * 0xFFFC + "41;L"[1:]), [Range(1, 1, 4)])
+
+    def test_a_full_set(self):
+        line = property_cases.case([("G", property_cases.scattered(300)), ("G", "1;L"), ("G", "0;L")], (300, 0))
+        self.assertTrue(cases.answer(line).startswith("ok|R 14 1 l|R 13 1 l|0000-0000.4,0002-0002.4,"))
 
 
 class BesideTheLayout(unittest.TestCase):
@@ -85,6 +99,71 @@ class Names(unittest.TestCase):
             self.assertEqual({shorter.get(name, name): code for name, code in own.items()}, {name: code for code, name in enumerate(names)})
             self.assertEqual({codes[name] for name in property_reading.OLD_NAMES}, {0})
         self.assertEqual((len(CLUSTER_CODES), len(WORD_CODES)), (18, 23))
+
+
+# ---- The same in other words ----------------------------------------------------------------
+
+
+def split_line(line, codes):
+    """(first, last, code), None, or the number of a refusal."""
+    fields = [field.strip(b" \t") for field in line.split(b"#")[0].split(b";")]
+    if fields == [b""]:
+        return None
+    if len(fields) != 2:
+        return 11
+    ends = fields[0].split(b"..")
+    if len(ends) > 2 or not all(end and set(end) <= set(string.hexdigits.encode()) for end in ends):
+        return 11
+    if not fields[1] or set(fields[1]) & set(b" \t"):
+        return 11
+    first, last = int(ends[0], 16), int(ends[-1], 16)
+    if last < first or last >= 0x110000:
+        return 11
+    code = codes.get(fields[1].decode("latin-1"))
+    return 12 if code is None else (first, last, code)
+
+
+def split_answer(line):
+    """The answer to a case that is of the layout."""
+    _, cells, blocks, out, scalars = line.split(";")
+    sets, verdicts = {"G": [], "W": []}, []
+    most = dict(zip("GW", map(int, cells.split(","))))
+    for file, data in ((item[0], bytes.fromhex(item[2:])) for item in blocks.split()):
+        new = list(sets[file])
+        verdict = "R 1 0 -" if len(data) > 65_536 else "ok"
+        for number, text in enumerate(data.split(b"\n") if verdict == "ok" else [], 1):
+            found = split_line(text[:-1] if text.endswith(b"\r") else text, CLUSTER_CODES if file == "G" else WORD_CODES)
+            if isinstance(found, tuple):
+                is_met = any(max(found[0], first) <= min(found[1], last) for first, last, _ in new)
+                new.append(found)
+                found = 13 if is_met else 14 if len(new) > most[file] else None
+            if found:
+                verdict = f"R {found} {number} l"
+                break
+        verdicts.append(verdict)
+        sets[file] = sorted(new) if verdict == "ok" else sets[file]
+    numbers = [int(scalar, 16) for scalar in scalars.split()]
+    bad = [at for at, number in enumerate(numbers) if number > 0x10FFFF or number >> 11 == 0x1B]
+    classes = " ".join(",".join(str(next((code for first, last, code in held if first <= number <= last), 0)) for held in sets.values())
+                       for number in numbers)
+    looked_up = f"R 3 {bad[0]} r" if bad else "R 9 0 -" if int(out) < len(numbers) else classes
+    return "|".join(verdicts + [",".join(f"{first:04X}-{last:04X}.{code}" for first, last, code in held) for held in sets.values()] + [looked_up])
+
+
+class OtherWords(unittest.TestCase):
+    def hold(self, lines):
+        for line in lines:
+            self.assertEqual(cases.answer(line), split_answer(line), line)
+
+    def test_corners(self):
+        self.hold(line for line, _ in property_cases.corners())
+
+    def test_random_files(self):
+        self.hold(generate.generate("F", 1, 1_500))
+
+    def test_fixed_parts(self):
+        for part, stride in (("exhaustive-F", 17), ("bytes-F", 7), ("names-F", 11), ("faults-F", 5)):
+            self.hold(itertools.islice(generate.generate(part, 1, None), 0, None, stride))
 
 
 if __name__ == "__main__":
