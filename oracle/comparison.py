@@ -9,6 +9,7 @@ import cases
 import generate
 import laws
 import real_labels
+import real_properties
 import unicode
 
 KINDS = "SMCWwsmclnL"  # which the program `replay` answers
@@ -166,3 +167,9 @@ def compare_unicode(comparison, folder):
     count = comparison.part("unicode", lines)
     comparison.differences += unicode.check_all(folder, list(cases.answers(lines)))
     return count
+
+
+def compare_properties(comparison, folder, seed, count):
+    """The published property files, whole and as damaged lines, so many of each."""
+    return (comparison.part("published-F", real_properties.whole_files(folder))
+            + comparison.part("damaged-F", real_properties.damaged(folder, seed, count)))

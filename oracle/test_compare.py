@@ -80,19 +80,22 @@ class Parts(unittest.TestCase):
         self.assertEqual((len(self.sizes()["exhaustive-F"]), len(self.sizes("--short")["exhaustive-F"])), (27, 3))
 
     def compared(self, *words):
-        """The names of the parts that are made."""
-        with (mock.patch.object(sys, "argv", ["compare", *words]),
-              mock.patch("comparison.compare_real", lambda _: 0)):
+        """The names of the parts that are made, and whether the published property files are."""
+        with (mock.patch.object(sys, "argv", ["compare", "--unicode", "folder", *words]),
+              mock.patch("comparison.compare_real", lambda _: 0), mock.patch("comparison.compare_unicode", lambda *_: 0),
+              mock.patch("comparison.compare_properties", return_value=0) as files):
             options = compare.parse_options()
             judges = comparison.Comparison(None, None, options.kinds)
             made = []
             with mock.patch.object(judges, "part", lambda name, _: made.append(name) or 0):
                 compare.compared(judges, options)
-            return made
+            return made, files.called
 
     def test_property_files_have_to_be_asked_for(self):
-        self.assertFalse([name for name in self.compared() if name.endswith("F")])
-        self.assertLessEqual({*property_cases.RANDOM, *property_cases.FIXED}, set(self.compared("--kinds", "F")))
+        made, are_files_made = self.compared()
+        self.assertFalse(are_files_made or any(name.endswith("F") for name in made), made)
+        made, are_files_made = self.compared("--kinds", "F")
+        self.assertTrue(are_files_made and {*property_cases.RANDOM, *property_cases.FIXED} <= set(made), made)
 
 
 class Sources(unittest.TestCase):

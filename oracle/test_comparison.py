@@ -172,6 +172,14 @@ class Published(unittest.TestCase):
         self.assertIn("NO ENTRY", printed(comparison.compare_unicode, judges, folder)[1])
         self.assertEqual(judges.differences, 1)
 
+    def test_the_property_files(self):
+        folder = small_unicode.folder(self)
+        for program, expected in ((third, (7 + 1 + 2 * 5, 0)), (failing, (0, 2))):
+            judges = Comparison(rust, program, kinds="F")
+            with mock.patch("real_properties.EVERY_SCALAR", range(0x400)):
+                count, output = printed(comparison.compare_properties, judges, folder, 1, 5)
+            self.assertEqual((count, judges.differences), expected, output)
+
 
 if __name__ == "__main__":
     unittest.main()
