@@ -1,7 +1,8 @@
 #!/usr/bin/env python3
 """Do the fixed lists notice a wrong reading? Each mutant has one name, one number or one test
-of reading.py or line_reading.py changed; the lists have to answer otherwise in some line. Prints each
-mutant that no list notices, and the count.
+of reading.py, line_reading.py or property_reading.py changed; the lists have to answer otherwise in some
+line (for property files, which they do not have yet, the corners). Prints each mutant that no list notices,
+and the count.
 """
 
 import argparse
@@ -13,6 +14,8 @@ import signal
 import cases
 import line_reading
 import lists
+import property_cases
+import property_reading
 import reading
 
 HERE = pathlib.Path(__file__).resolve().parent
@@ -47,7 +50,7 @@ def change(node):
 
 
 # in the order in which they are loaded, each with the types that the layout has under their own names too
-MODULES = {reading: ("Part", "Record", "Refusal", "WordState"), line_reading: ("LineState", "Table")}
+MODULES = {reading: ("Part", "Record", "Refusal", "WordState"), line_reading: ("LineState", "Table"), property_reading: ()}
 
 
 def file_name(module):
@@ -78,7 +81,7 @@ def mutants():
 
 
 def of_layout():
-    return [(line, answer) for line, answer in lists.pairs() if answer[:1] != "?"]
+    return [(line, answer) for line, answer in lists.pairs() if answer[:1] != "?"] + list(property_cases.corners())
 
 
 def take_place(programs):
@@ -86,6 +89,7 @@ def take_place(programs):
         exec(programs[module], module.__dict__)
         for name in names:
             setattr(cases, name, getattr(module, name))
+    cases.PROPERTY_FILES = dict(zip(cases.PROPERTY_FILES, (property_reading.CLUSTER_CODES, property_reading.WORD_CODES)))
     for cached in (cases.record, cases.part, cases.table):
         cached.cache_clear()
 

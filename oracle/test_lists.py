@@ -12,6 +12,7 @@ import line_reading
 import lists
 import loading
 import mutants
+import property_reading
 import reading
 
 replay_lists = loading.command("oracle/replay-lists")
@@ -72,10 +73,13 @@ class Mutants(unittest.TestCase):
     def test_a_wrong_answer_is_noticed(self):
         unchanged = mutants.reading_itself()
         # a mutant takes the reading's place for good; the other tests want the reading back
-        with mock.patch.dict(vars(reading)), mock.patch.dict(vars(line_reading)), mock.patch.dict(vars(cases)):
-            self.assertFalse(mutants.is_noticed(unchanged, [("W;1;0,0", "1"), ("l;Normal;;0,0;0", "R 10 0 -;0,0")]))
+        with (mock.patch.dict(vars(reading)), mock.patch.dict(vars(line_reading)), mock.patch.dict(vars(property_reading)),
+              mock.patch.dict(vars(cases))):
+            self.assertFalse(mutants.is_noticed(unchanged, [("W;1;0,0", "1"), ("l;Normal;;0,0;0", "R 10 0 -;0,0"),
+                                                            ("F;0,0;;1;0041", "||0,0")]))
             self.assertTrue(mutants.is_noticed(unchanged, [("W;1;0,0", "0")]))
             self.assertTrue(mutants.is_noticed(unchanged, [("l;Normal;crate;44,-;1", "2;1,1")]))
+            self.assertTrue(mutants.is_noticed(unchanged, [("F;0,0;;1;0041", "||0,1")]))
 
 
 if __name__ == "__main__":
