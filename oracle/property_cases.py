@@ -157,7 +157,7 @@ def joined(rng, lines):
 
 def file_blocks(rng, file):
     """The blocks of one file and its ranges: cut anywhere between two lines, with no fault, one or two."""
-    ranges = stretch(rng, rng.choice((0, 1, 2, 3, 3, 5, 8, 20)))
+    ranges = stretch(rng, rng.choice((0, 1, 2, 3, 3, 5, 8, 20)) if rng.random() < 0.98 else rng.choice((64, 150, 256)))
     lines = [written(rng, *each, rng.choice(NAMES[file])) for each in ranges]
     for _ in range(rng.choice((0, 0, 0, 0, 0, 1, 1, 1, 2, 2))):
         lines.insert(rng.choice((0, len(lines), rng.randint(0, len(lines)))), fault(rng, file, ranges))
@@ -306,6 +306,9 @@ def sizes():
     for count, cells in ((0, 0), (1, 0), (1, 1), (2, 1), (300, 300), (300, 299), (MOST_RANGES, MOST_RANGES), (MOST_RANGES + 1, MOST_RANGES)):
         yield case([("G", scattered(count)), ("G", "0;Foo"), ("G", "0;L"), ("G", "1;L"), ("W", scattered(count % 300, 0x10000, "CR"))],
                    (cells, MOST_RANGES), (0, 1, 2, 3, 2 * count, 0x10000))
+    downward = [f"{2 * at:X};L\n" for at in reversed(range(MOST_RANGES))]
+    for last in ("1;L", "0;L", "1;V\nx", "x"):
+        yield case([("G", "".join(downward) + last), ("G", "".join(downward[::2]))], (MOST_RANGES, 0), (0, 1, 2, 0x1FFE))
     for length in (4095, 4096, 4097, 20_000, 65_535):
         scalars = [at * 7 % 0x3000 for at in range(length)]
         for spare in (0, -1):

@@ -65,8 +65,9 @@ MOST_BYTES = 0x10000
 
 
 def meets(one, held):
-    """Whether a range shares a scalar with one that is held; to touch is not to meet."""
-    return any(one.first <= other.last and other.first <= one.last for other in held)
+    """Whether a range shares a scalar with one that is held; to touch is not to meet. (A held range that runs
+    downward, which no block fills, has no scalar.)"""
+    return any(one.first <= other.last and other.first <= one.last and other.first <= other.last for other in held)
 
 
 def read(data, codes, held, cells):

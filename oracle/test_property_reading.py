@@ -83,6 +83,10 @@ class BesideTheLayout(unittest.TestCase):
         self.assertEqual(read("40;V\n42;V\nx", held), Refusal(11, 3, "l"))
         self.assertEqual(held, [Range(0x41, 0x41, 4)])
 
+    def test_a_held_range_without_scalars_meets_none(self):
+        self.assertEqual(read("5..9;L", [Range(8, 7, 3)], cells=2), [Range(5, 9, 4), Range(8, 7, 3)])
+        self.assertEqual(read("5..9;L", [Range(20, 30, 3), Range(9, 9, 3)], cells=3), Refusal(13, 1, "l"))
+
     def test_the_first_range_that_has_a_scalar_decides(self):
         disorder = [Range(5, 9, 1), Range(0, 6, 2), Range(8, 7, 3), Range(9, 12, 4)]
         self.assertEqual(property_reading.found_codes([0, 5, 7, 9, 12, 13, 5], disorder), [2, 1, 1, 1, 4, 0, 1])
