@@ -1,11 +1,8 @@
 pub mod Tables
 pub mod Listed
 pub mod Grammar
-pub mod Examples
 pub mod Orders
 pub mod Hits
 pub mod Fills
 pub mod Answers
 pub mod Rules
-pub mod Meetings
-pub mod Outcomes
