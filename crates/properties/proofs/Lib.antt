@@ -6,3 +6,8 @@ pub mod Hits
 pub mod Fills
 pub mod Answers
 pub mod Rules
+pub mod Meetings
+pub mod Insertions
+pub mod Merges
+pub mod Fillings
+pub mod Notes

@@ -62,13 +62,16 @@ fn note(
     requires { ⌜ (n < length (now firsts)) × ((n < length (now lasts)) × (n < length (now codes))) ⌝ }
     ensures { λ r. ⌜ NotedBy ruling (now (firsts .entry)) (now (lasts .entry)) (now (codes .entry)) n r (now (firsts .exit)) (now (lasts .exit)) (now (codes .exit)) ⌝ }
 {
-    let Ruling::Range { first, last, code } = ruling else {
-        return n;
-    };
-    firsts[n] = first;
-    lasts[n] = last;
-    codes[n] = code;
-    n + 1
+    match ruling {
+        Ruling::Nothing => n,
+        Ruling::Refused(_) => n,
+        Ruling::Range { first, last, code } => {
+            firsts[n] = first;
+            lasts[n] = last;
+            codes[n] = code;
+            n + 1
+        }
+    }
 }
 
 // What the lines came to: their verdict, and how many ranges are noted.
