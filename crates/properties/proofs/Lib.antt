@@ -11,3 +11,6 @@ pub mod Insertions
 pub mod Merges
 pub mod Fillings
 pub mod Notes
+pub mod Long
+pub mod Turns
+pub mod Outcomes
