@@ -1,6 +1,7 @@
 pub mod Tables
 pub mod Listed
 pub mod Grammar
+pub mod Examples
 pub mod Orders
 pub mod Hits
 pub mod Fills
@@ -14,3 +15,6 @@ pub mod Notes
 pub mod Long
 pub mod Turns
 pub mod Outcomes
+pub mod Readings
+pub mod Refused
+pub mod Blocks

@@ -60,9 +60,13 @@ module _ (body : List ℕ) where
   unfolding firstOf scalarsOf upTo
   scalars-some v e =
       let scalars : List ℕ = trimmed (take (before (code ";") body) body) in
-      omega
-      (arith, digits-some (take (before (code ".") scalars) scalars) v e, take-short (before (code ".") scalars) scalars,
-      trimmed-short (take (before (code ";") body) body), take-most (before (code ";") body) body)
+      omega (
+        arith,
+        digits-some (take (before (code ".") scalars) scalars) v e,
+        take-short (before (code ".") scalars) scalars,
+        trimmed-short (take (before (code ";") body) body),
+        take-most (before (code ";") body) body,
+      )
 
   value-some : noValue (valueOf body) ≡ false → before (code ";") body + 2 ≤ length body
   unfolding noValue valueOf after

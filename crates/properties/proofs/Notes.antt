@@ -25,9 +25,14 @@ module _ (ruling : Ruling) (firsts lasts codes : List ℕ) (n : ℕ) where
     unfolding heldFrom
     one-more =
         let z : 0 + n ≡ n = omega arith in
-        rw
-        (add-one n, z, getD-set-same firsts n first 0 a, getD-set-same lasts n last 0 b, getD-set-same codes n code 0 c,
-        held-kept firsts lasts codes n n first last code (le-refl n))
+        rw (
+          add-one n,
+          z,
+          getD-set-same firsts n first 0 a,
+          getD-set-same lasts n last 0 b,
+          getD-set-same codes n code 0 c,
+          held-kept firsts lasts codes n n first last code (le-refl n),
+        )
 
     pub noted-range : ruling ≡ Ruling.Range first last code → NotedBy ruling firsts lasts codes n (n + 1) (set firsts n first) (set lasts n last) (set codes n code)
     noted-range e = rw e (record { noted = one-more; counted = omega arith })

@@ -25,8 +25,7 @@ use Rattle.properties.specs.Rulings.{rulingOf}
 use Rattle.properties.specs.Ranges.{Ranges, ranges}
 use Rattle.properties.specs.Reading.{Held, heldFrom, heldOf, said, met, refusedAt, judgeRuling, cellsOf, room, judgeLine, lineCount, readVerdict, putAll, storedIn, readInto, readRanges, HasRead}
 use Rattle.properties.specs.Inner.{Reach, metBy, metSaid, judgeMet, judgeFree, Readable, Collects}
-use Rattle.properties.proofs.Insertions.{met-append}
-use Rattle.properties.proofs.Merges.{held-length}
+use Rattle.properties.proofs.Insertions.{met-append, held-length}
 use Rattle.properties.proofs.Turns.{met-list}
 
 -- the cells of the shortest column are in each
@@ -64,9 +63,13 @@ module _ (file : File) (bytes firsts lasts codes : List ℕ) (held free : ℕ) (
   unfolding judgeLine judgeFree
   line-free k =
       ruling-free (rulingOf file (span 10 k bytes)) (said file bytes k) (heldFrom firsts lasts codes 0 held) (cellsOf (length firsts) (length lasts) (length codes)) (k + 1)
-      ∙ rw
-      (← lent .cells, length-append (said file bytes k) (heldFrom firsts lasts codes 0 held), held-length firsts lasts codes 0 held,
-      free-cells held free (length (said file bytes k)), ← met-list firsts lasts codes held (rulingOf file (span 10 k bytes)))
+      ∙ rw (
+        ← lent .cells,
+        length-append (said file bytes k) (heldFrom firsts lasts codes 0 held),
+        held-length firsts lasts codes 0 held,
+        free-cells held free (length (said file bytes k)),
+        ← met-list firsts lasts codes held (rulingOf file (span 10 k bytes)),
+      )
 
   lines-free : over (judgeFree file bytes firsts lasts held free) 0 (lineCount bytes) ≡ readVerdict file (ranges firsts lasts codes held) bytes
   unfolding readVerdict
@@ -89,9 +92,9 @@ module _ (file : File) (bytes firsts lasts codes : List ℕ) (held free : ℕ) (
         record {
           judged = verdict-is;
           held =
-          s
-          ∙ ap (λ hs. storedIn (ranges firsts lasts codes held) (putAll (heldFrom firsts lasts codes 0 held) hs)) (got .noted e)
-          ∙ ap (λ v. readInto v file (ranges firsts lasts codes held) bytes) (sym e ∙ verdict-is);
+              s
+              ∙ ap (λ hs. storedIn (ranges firsts lasts codes held) (putAll (heldFrom firsts lasts codes 0 held) hs)) (got .noted e)
+              ∙ ap (λ v. readInto v file (ranges firsts lasts codes held) bytes) (sym e ∙ verdict-is);
         }
 
 -- refused before any line

@@ -27,7 +27,7 @@ use Rattle.properties.specs.Lines.{leading, ending, untailed, trimmed, w
 use Rattle.properties.specs.Rulings.{rulingOf}
 use Rattle.properties.specs.Reading.{Held, heldFrom, saidBy, said, share, met, lineCount}
 use Rattle.properties.specs.Inner.{some, metIn, metBy, metSaid, judgeMet, judgeFree, NotedBy, Collects}
-use Rattle.properties.proofs.Merges.{held-length}
+use Rattle.properties.proofs.Insertions.{held-length}
 use Rattle.properties.proofs.Long.{said-bytes, said-one}
 
 met-rows : (firsts lasts codes : List ℕ) (n first last : ℕ) → metIn firsts lasts n first last ≡ met first last (heldFrom firsts lasts codes 0 n)

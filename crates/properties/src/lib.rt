@@ -14,9 +14,8 @@ pub use lines::value_in;
 pub use lookups::lookup;
 pub use names::code_of;
 pub use reading::read;
-pub use rulings::ruling_of;
-
 use records::Verdict;
+pub use rulings::ruling_of;
 
 // Which of the two property files.
 pub enum File {

@@ -52,13 +52,7 @@ fn judge_ruling(ruling: Ruling, before: bool, earlier: bool, full: bool, line: u
 }
 
 // The range of a line goes behind the n that are noted.
-fn note(
-    ruling: Ruling,
-    firsts: &mut [u32],
-    lasts: &mut [u32],
-    codes: &mut [u8],
-    n: usize,
-) -> usize
+fn note(ruling: Ruling, firsts: &mut [u32], lasts: &mut [u32], codes: &mut [u8], n: usize) -> usize
     requires { ⌜ (n < length (now firsts)) × ((n < length (now lasts)) × (n < length (now codes))) ⌝ }
     ensures { λ r. ⌜ NotedBy ruling (now (firsts .entry)) (now (lasts .entry)) (now (codes .entry)) n r (now (firsts .exit)) (now (lasts .exit)) (now (codes .exit)) ⌝ }
 {
