@@ -17,7 +17,7 @@ use Rattle.properties.specs.declared.Line.{Line}
 use Rattle.properties.specs.declared.Line.the-variants.{Skipped, Malformed, Range}
 use Rattle.properties.specs.Rulings.{rulingOf}
 use Rattle.properties.specs.Ranges.{Ranges, ranges}
-use Rattle.properties.specs.Reading.{heldFrom, saidBy, said, share, met, judgeRuling, judgeLine, cellsOf, readVerdict, putIn, putAll, upward, stored, readRanges}
+use Rattle.properties.specs.Reading.{heldFrom, said, share, met, judgeLine, cellsOf, readVerdict, putIn, putAll, upward, stored, readRanges}
 use Rattle.properties.specs.Names.{ascii, among, codeOf}
 use Rattle.properties.specs.Lines.{isBlank, leading, ending, untailed, trimmed, withoutCR, bodyOf, scalarsOf, valueOf, isBetween, noValue, hex, firstOf, lastOf, lineOf, valueIn}
 

@@ -2,13 +2,12 @@
 use Prim.Native.Nat.{ℕ, zero, suc, _+_, _-_, _≤_}
 use Prim.Native.Char.{code}
 use mathlib.Core.Path.{_≡_, refl}
-use mathlib.Core.Bool.{Bool, true, false, cond}
+use mathlib.Core.Bool.{false, cond}
 use mathlib.Core.List.{List, [], _∷_}
 use native.Mathlib.Nat.{le-trans, le-of-eq, min-le-left, min-le-right}
 use native.Mathlib.Omega.{arith}
 use lib.Dec.{eqb, leb}
 use lib.ListN.{length, getD, take, drop, length-take, length-drop}
-use borrow.Author.Tests.{eq-eqb}
 use Rattle.basics.specs.Sets.{any}
 use Rattle.basics.proofs.Tests.{if-intro, neither}
 use Rattle.cases.specs.declared.numbers.Number.{Number}

@@ -1,5 +1,5 @@
 -- What `note` leaves in the columns beside. Assumes nothing.
-use Prim.Native.Nat.{ℕ, suc, _+_, _<_, _≤_}
+use Prim.Native.Nat.{ℕ, _+_, _<_}
 use mathlib.Core.Path.{_≡_, refl}
 use mathlib.Core.List.{List, _∷_}
 use native.Mathlib.Nat.{le-refl}

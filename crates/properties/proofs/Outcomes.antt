@@ -1,30 +1,28 @@
 -- How a reading comes out. Assumes nothing.
 use Prim.Native.Nat.{ℕ, _+_, _-_, _<_, _≤_, min}
 use mathlib.Core.Path.{_≡_, refl, sym, _∙_, ap}
-use mathlib.Core.Bool.{Bool, true, false, _||_}
+use mathlib.Core.Bool.{_||_}
 use mathlib.Core.List.{List, _++_}
-use native.Mathlib.Nat.{le-trans, le-of-eq, min-le-left, min-le-right}
+use native.Mathlib.Nat.{le-trans, min-le-left, min-le-right}
 use native.Mathlib.Omega.{arith}
 use lib.Dec.{leb}
 use lib.ListN.{length, length-append}
 use borrow.Author.Tests.{lt-ltb, le-ltb, le-leb, lt-leb, leb-true, leb-false}
 use Rattle.basics.proofs.Tests.{by-test}
 use Rattle.cases.specs.Spans.{span}
-use Rattle.records.specs.Refusals.{refusal, refuse, _⊳_, over}
-use Rattle.records.specs.declared.Side.the-variants.{Neither}
+use Rattle.records.specs.Refusals.{over}
 use Rattle.records.specs.declared.Refusal.{Refusal}
 use Rattle.records.specs.declared.Verdict.{Verdict}
 use Rattle.records.specs.declared.Verdict.the-variants.{Accepted, Refused}
 use Rattle.records.proofs.Judged.{over-same}
 use Rattle.properties.specs.declared.File.{File}
-use Rattle.properties.specs.declared.Filled.{Filled}
 use Rattle.properties.specs.declared.Ruling.{Ruling}
 use Rattle.properties.specs.declared.Ruling.the-variants as Ruling
 use Rattle.properties.specs.declared.verdicts.Collected.{Collected}
 use Rattle.properties.specs.Rulings.{rulingOf}
 use Rattle.properties.specs.Ranges.{Ranges, ranges}
-use Rattle.properties.specs.Reading.{Held, heldFrom, heldOf, said, met, refusedAt, judgeRuling, cellsOf, room, judgeLine, lineCount, readVerdict, putAll, storedIn, readInto, readRanges, HasRead}
-use Rattle.properties.specs.Inner.{Reach, metBy, metSaid, judgeMet, judgeFree, Readable, Collects}
+use Rattle.properties.specs.Reading.{Held, heldFrom, said, refusedAt, judgeRuling, cellsOf, judgeLine, lineCount, readVerdict, putAll, storedIn, readInto, readRanges, HasRead}
+use Rattle.properties.specs.Inner.{Reach, metSaid, judgeMet, judgeFree, Readable, Collects}
 use Rattle.properties.proofs.Insertions.{met-append, held-length}
 use Rattle.properties.proofs.Turns.{met-list}
 

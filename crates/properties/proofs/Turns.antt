@@ -1,8 +1,8 @@
 -- The lines in turn: what is noted and judged of them so far. Assumes nothing.
 use Prim.Native.Nat.{ℕ, zero, suc, _+_, _-_, _<_, _≤_}
 use mathlib.Core.Path.{_≡_, refl, sym, _∙_, ap}
-use mathlib.Core.Bool.{Bool, true, false, cond, _||_}
-use mathlib.Core.List.{List, [], _∷_, _++_}
+use mathlib.Core.Bool.{Bool, true, false, _||_}
+use mathlib.Core.List.{List, []}
 use native.Mathlib.Numerals.{add-one}
 use native.Mathlib.Omega.{arith}
 use lib.Dec.{leb, ltb}
@@ -13,8 +13,6 @@ use Rattle.basics.proofs.Tests.{by-test, if-intro}
 use Rattle.cases.specs.Spans.{before, upTo, after, nextFrom, rest, span}
 use Rattle.cases.proofs.Splits.{before-within, rest-more, span-read}
 use Rattle.records.specs.Text.{cell}
-use Rattle.records.specs.Refusals.{over, refuse, _⊳_}
-use Rattle.records.specs.declared.Side.the-variants.{Neither}
 use Rattle.records.specs.declared.Refusal.{Refusal}
 use Rattle.records.specs.declared.Verdict.{Verdict}
 use Rattle.records.specs.declared.Verdict.the-variants.{Accepted, Refused}
@@ -25,7 +23,7 @@ use Rattle.properties.specs.declared.Ruling.{Ruling}
 use Rattle.properties.specs.declared.Ruling.the-variants as Ruling
 use Rattle.properties.specs.Lines.{leading, ending, untailed, trimmed, withoutCR, bodyOf, lineOf}
 use Rattle.properties.specs.Rulings.{rulingOf}
-use Rattle.properties.specs.Reading.{Held, heldFrom, saidBy, said, share, met, lineCount}
+use Rattle.properties.specs.Reading.{heldFrom, saidBy, said, share, met, lineCount}
 use Rattle.properties.specs.Inner.{some, metIn, metBy, metSaid, judgeMet, judgeFree, NotedBy, Collects}
 use Rattle.properties.proofs.Insertions.{held-length}
 use Rattle.properties.proofs.Long.{said-bytes, said-one}
