@@ -123,9 +123,13 @@ stored f hs column = upward f hs ++ drop (length hs) column
 abbrev pub storedIn : Ranges → List Held → Ranges
 storedIn r hs = ranges (stored theFirst hs (r .firsts)) (stored theLast hs (r .lasts)) (stored theCode hs (r .codes)) (length hs)
 
+-- the ranges put into the columns
+abbrev pub putInto : Ranges → List Held → Ranges
+putInto r xs = storedIn r (putAll (heldOf r) xs)
+
 -- with a refusal "no column has changed"
 abbrev pub readInto : Verdict → File → Ranges → List ℕ → Ranges
-readInto Accepted file r bytes = storedIn r (putAll (heldOf r) (said file bytes (lineCount bytes)))
+readInto Accepted file r bytes = putInto r (said file bytes (lineCount bytes))
 readInto (Refused refusal) file r bytes = r
 
 unfoldable pub readRanges : File → Ranges → List ℕ → Ranges

@@ -38,9 +38,9 @@ fn read_lines(
     requires { ⌜ Readable (now bytes) (now firsts) (now lasts) (now codes) held free ⌝ }
     ensures { λ r. ⌜ HasRead file (ranges (now (firsts .entry)) (now (lasts .entry)) (now (codes .entry)) held) (now (bytes .entry)) r (now (firsts .exit)) (now (lasts .exit)) (now (codes .exit)) ⌝ }
 {
-    let mut new_firsts = [0u32; NEW];
-    let mut new_lasts = [0u32; NEW];
-    let mut new_codes = [0u8; NEW];
+    let mut nfirsts = [0u32; NEW];
+    let mut nlasts = [0u32; NEW];
+    let mut ncodes = [0u8; NEW];
     let collected = collect(
         file,
         bytes,
@@ -48,25 +48,16 @@ fn read_lines(
         lasts,
         held,
         free,
-        &mut new_firsts,
-        &mut new_lasts,
-        &mut new_codes,
+        &mut nfirsts,
+        &mut nlasts,
+        &mut ncodes,
     );
     let verdict = collected.verdict;
     let Verdict::Accepted = verdict else {
         return Filled { verdict, held };
     };
     let n = collected.count;
-    fill(
-        firsts,
-        lasts,
-        codes,
-        held,
-        &new_firsts,
-        &new_lasts,
-        &new_codes,
-        n,
-    );
+    fill(firsts, lasts, codes, held, &nfirsts, &nlasts, &ncodes, n);
     Filled {
         verdict,
         held: held + n,
