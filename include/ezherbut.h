@@ -6,8 +6,8 @@
  *
  * Stack. A call on a label of up to 256 tokens fits in 16 KiB, a call on any text in 256 KiB. Measured on x86-64 and on Arm: 13.5 KB for a
  * label (ezh_step; ezh_run 12.3 KB, simple 4.4), 115 KB for the longest text, of which 96 KiB hold its tokens; the check, the words
- * and the lines need less than 1 KB. ezh_read_properties needs 148 KB, whatever it is lent, of which 144 KiB hold the ranges of one call;
- * ezh_lookup less than 1 KB. bench/stack measures it.
+ * and the lines need less than 1 KB. ezh_read_properties needs 148 KB on x86-64, whatever it is lent, of which 144 KiB hold the
+ * ranges of one call; ezh_lookup less than 1 KB. bench/stack measures it.
  *
  * A text is 18 columns, in this order in every call. Fourteen with a cell for each record: scalar, cluster break, USE class, Myanmar
  * class, category, word class, then the marks (0 no, 1 yes) emoji for the simple, the Myanmar and the complex parser, pictograph,
