@@ -79,16 +79,27 @@ static void lend(size_t pattern, size_t tokens) {
     }
 }
 
+/* A line of a property file for each record, all of one length. */
+enum { LINE = sizeof "010000;L\n" - 1 };
+static char lines[MOST * LINE + 1];
+
+static void write_lines(void) {
+    for (unsigned i = 0; i < MOST; i++) {
+        sprintf(lines + i * LINE, "%06X;L\n", 0x10000 + i);
+    }
+}
+
 /* The call under way, and what it writes. */
-enum { CHECK, RUN, STEP, CHECK_WORDS, RUN_WORDS, STEP_WORD, RUN_LINES, STEP_LINE, STEP_NEXT, CALLS };
-static const char *names[] = {"ezh_check",     "ezh_run",       "ezh_step",      "ezh_check_words", "ezh_run_words",
-                              "ezh_step_word", "ezh_run_lines", "ezh_step_line", "ezh_step_next"};
+enum { CHECK, RUN, STEP, CHECK_WORDS, RUN_WORDS, STEP_WORD, RUN_LINES, STEP_LINE, STEP_NEXT, READ, LOOKUP, CALLS };
+static const char *names[] = {"ezh_check",     "ezh_run",       "ezh_step",      "ezh_check_words",     "ezh_run_words", "ezh_step_word",
+                              "ezh_run_lines", "ezh_step_line", "ezh_step_next", "ezh_read_properties", "ezh_lookup"};
 static int call;
 static uint64_t parser, mode, strength, results[EZH_STEP_CELLS];
 static size_t place;
-static uint32_t out_scalars[CELLS];
-static uint8_t out_classes[CELLS];
+static uint32_t out_scalars[CELLS], out_lasts[CELLS];
+static uint8_t out_classes[CELLS], out_words[CELLS];
 static uint16_t out_numbers[CELLS], out_noted[EZH_CLUSTER_CELLS];
+static ezh_ranges ranges = {CELLS, out_scalars, out_lasts, out_classes, 0};
 static unsigned char *stack, *frame;
 
 #define TABLE EZH_PAIR_TABLE, sizeof EZH_PAIR_TABLE
@@ -122,9 +133,16 @@ static void *made(void *none) {
     case STEP_LINE:
         ezh_step_line(strength, TABLE, EZH_LINE_START, zeros, text.records, zeros[0], results, EZH_STEP_CELLS);
         break;
-    default:
+    case STEP_NEXT:
         ezh_step_next(strength, TABLE, EZH_LINE_START, zeros, text.records, 1, EZH_WORD_OTHER, 0, 0, zeros[0], zeros[0], emojis[0], zeros,
                       text.records, results, EZH_STEP_CELLS);
+        break;
+    case READ:
+        ezh_read_properties(EZH_FILE_CLUSTER, (const uint8_t *)lines, text.records * LINE, EZH_RANGES(ranges), results, EZH_STEP_CELLS);
+        break;
+    default:
+        ezh_lookup(scalars, text.records, EZH_RANGES(ranges), EZH_RANGES(ranges), out_words, MOST, out_words + MOST, MOST, results,
+                   EZH_STEP_CELLS);
     }
     return none;
 }
@@ -161,7 +179,7 @@ static size_t most(size_t tokens) {
     for (size_t pattern = 0; pattern < sizeof patterns / sizeof *patterns; pattern++) {
         lend(pattern, tokens);
         for (mode = EZH_CRATE; mode <= EZH_WHOLE; mode++) {
-            for (strength = EZH_STRENGTH_NORMAL; call >= RUN_LINES && strength < EZH_STRENGTH_KEEPALL; strength++) {
+            for (strength = EZH_STRENGTH_NORMAL; call >= RUN_LINES && call <= STEP_NEXT && strength < EZH_STRENGTH_KEEPALL; strength++) {
                 at_least(&bytes, measured());
             }
             place = 0;
@@ -183,12 +201,13 @@ int main(void) {
     if (stack == MAP_FAILED) {
         return 1;
     }
-    printf("%-16s %-8s %10s %10s\n", "call", "parser", "a label", "any text");
+    write_lines();
+    printf("%-20s %-8s %10s %10s\n", "call", "parser", "a label", "any text");
     for (call = CHECK; call < CALLS; call++) {
         for (parser = EZH_SIMPLE; parser <= EZH_KHMER; parser++) {
             size_t label = most(256), any = most(3 * MOST);
             if (call < CHECK_WORDS || parser == EZH_SIMPLE) {
-                printf("%-16s %-8s %10zu %10zu\n", names[call], call < CHECK_WORDS ? parsers[parser] : "", label, any);
+                printf("%-20s %-8s %10zu %10zu\n", names[call], call < CHECK_WORDS ? parsers[parser] : "", label, any);
             }
         }
     }

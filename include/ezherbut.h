@@ -6,7 +6,8 @@
  *
  * Stack. A call on a label of up to 256 tokens fits in 16 KiB, a call on any text in 256 KiB. Measured on x86-64 and on Arm: 13.5 KB for a
  * label (ezh_step; ezh_run 12.3 KB, simple 4.4), 115 KB for the longest text, of which 96 KiB hold its tokens; the check, the words
- * and the lines need less than 1 KB. bench/stack measures it.
+ * and the lines need less than 1 KB. ezh_read_properties needs 148 KB on x86-64, whatever it is lent, of which 144 KiB hold the
+ * ranges of one call; ezh_lookup less than 1 KB. bench/stack measures it.
  *
  * A text is 18 columns, in this order in every call. Fourteen with a cell for each record: scalar, cluster break, USE class, Myanmar
  * class, category, word class, then the marks (0 no, 1 yes) emoji for the simple, the Myanmar and the complex parser, pictograph,
@@ -18,14 +19,19 @@
  * cell is the row that comes next (its value modulo 64), 0x40 where a break is mandatory, 0x80 where one is allowed. EZH_PAIR_TABLE in
  * ezherbut_codes.h is swash's own.
  *
+ * The properties of a text's records can be read from Unicode's own files, GraphemeBreakProperty.txt and WordBreakProperty.txt.
+ * ezh_read_properties fills range columns from the lines of one of them, a set of three columns for each file: the first scalar, the last
+ * scalar and the code of each range. How many ranges a set holds is handed in and out, 0 at first. The cells of a set are those of its
+ * shortest column. ezh_lookup then fills the columns cluster break and word class of a text; a scalar in no range has code 0.
+ *
  * Results. Each function returns a refusal, 0 where there is none, and writes numbers to the results column, which comes last: the
  * refusal, its side and its index in the first three cells, then what the function says below. Cells past those keep their content.
  *
  * Refusals, in testing order. With any of them no lent column changes but the results column.
  *
  *   9  the results column has fewer cells than the function writes: the results column is left as it was too
- *   4  side neither: the parser, the mode or the strength is not of its list
- *   1  a column of the text is longer than 4,096
+ *   4  side neither: the parser, the mode, the strength or the property file is not of its list
+ *   1  a column of the text is longer than 4,096; the lent bytes of a property file are more than 65,536
  *   2  columns of one set differ in length
  *  10  a line table is not whole rows of 44, has fewer than 45 rows, or has a cell that names a row it has not
  *   3  a scalar above 10FFFF or in D800 to DFFF: side and index say where
@@ -38,6 +44,15 @@
  *   9  a column for the answer is too short
  *
  * 3, 4 and 6 are looked for in the parts by rising index, then 3, 4, 5 and 6 in the records by rising index.
+ *
+ * Refusals of a line of a property file. The side is neither, and the index is the number of the line, from 1 in the bytes lent. The lines
+ * are judged in turn, so that the first one that is refused decides, and in it the lowest number.
+ *
+ *  11  the line is malformed: it is not blank, and neither "0041;VALUE" nor "0041..0043;VALUE", with blanks around the fields and perhaps
+ *      a comment after #; or a scalar is above 10FFFF, or the range runs downward
+ *  12  the value is no name of that file; names are compared byte by byte
+ *  13  the range shares a scalar with one that is held or of an earlier line
+ *  14  the range finds no cell; with index 0, of no line: there are fewer cells than ranges are said to be held
  */
 #ifndef EZHERBUT_H
 #define EZHERBUT_H
@@ -56,8 +71,9 @@ enum {
     EZH_REFUSAL = 0,
     /* EZH_SIDE_NEITHER, EZH_SIDE_RECORD or EZH_SIDE_PART */
     EZH_SIDE = 1,
+    /* of a record or a part from 0; of the line of a property file from 1 */
     EZH_INDEX = 2,
-    /* how many cells a check, a word run and a run of lines write */
+    /* how many cells a check, a word run, a run of lines and a lookup write */
     EZH_CHECK_CELLS = 3,
 };
 
@@ -125,6 +141,16 @@ enum {
 /* The row in which every text starts. */
 enum { EZH_LINE_START = 44 };
 
+/* The further cells of ezh_read_properties' results. */
+enum {
+    /* how many ranges are held then; with a refusal the number that was given */
+    EZH_READ_HELD = 3,
+    EZH_READ_CELLS = 4,
+};
+
+/* How many bytes of a property file are lent at most in one call. Both files of Unicode 15.0 have more: they are cut after an LF. */
+enum { EZH_PROPERTY_BYTES = 65536 };
+
 /* The parameters of a text, and a text of columns that have one length, written out as these arguments by EZH_TEXT. */
 #define EZH_TEXT_PARAMETERS                                                                                                        \
     const uint32_t *scalars, size_t scalars_count, const uint8_t *breaks, size_t breaks_count, const uint8_t *uses,                \
@@ -153,6 +179,16 @@ typedef struct {
         (t).records, (t).words, (t).records, (t).semojis, (t).records, (t).memojis, (t).records, (t).cemojis, (t).records,         \
         (t).pictographs, (t).records, (t).selectors, (t).records, (t).decomposes, (t).records, (t).firsts, (t).records,            \
         (t).counts, (t).records, (t).pscalars, (t).parts, (t).pbreaks, (t).parts, (t).puses, (t).parts, (t).pcategories, (t).parts
+
+/* Range columns that have one length, written out as arguments by EZH_RANGES. */
+typedef struct {
+    size_t cells;
+    uint32_t *firsts, *lasts;
+    uint8_t *codes;
+    size_t held;
+} ezh_ranges;
+
+#define EZH_RANGES(r) (r).firsts, (r).cells, (r).lasts, (r).cells, (r).codes, (r).cells, (r).held
 
 /* The check of a text for a parser. Results: EZH_CHECK_CELLS. Refusals: 9 (results), 4 (parser), 1 to 7. */
 uint64_t ezh_check(uint64_t parser, EZH_TEXT_PARAMETERS, uint64_t *results, size_t results_count);
@@ -234,6 +270,30 @@ uint64_t ezh_step_next(uint64_t strength, const uint8_t *table, size_t table_cou
                        size_t before_count, uint64_t first, uint64_t previous, uint64_t prevent, uint64_t count, uint64_t line,
                        uint64_t word, uint64_t pictograph, const uint8_t *rest, size_t rest_count, uint64_t *results,
                        size_t results_count);
+
+/*
+ * The ranges of the lines of a property file, EZH_FILE_CLUSTER or EZH_FILE_WORD, put into range columns of which the first `held` cells
+ * are ranges already. Afterwards all of them stand in the order of their scalars. The bytes are at most EZH_PROPERTY_BYTES; a longer file
+ * is lent in pieces that are cut after an LF, each with the number that the call before has told. A cut inside a line cannot be seen. The
+ * last line needs no LF, and a CR before an LF is a part of the line's end. Results: EZH_READ_CELLS.
+ * Refusals: 9 (results), 4 (file), 1, 14 with index 0, then line by line 11, 12, 13, 14. With a refusal of any line nothing of the other
+ * lines is read either.
+ */
+uint64_t ezh_read_properties(uint64_t file, const uint8_t *bytes, size_t bytes_count, uint32_t *firsts, size_t firsts_count,
+                             uint32_t *lasts, size_t lasts_count, uint8_t *codes, size_t codes_count, size_t held,
+                             uint64_t *results, size_t results_count);
+
+/*
+ * The lookup: the cluster break and the word class of each scalar of a text, in the first cells of two columns, from the ranges of both
+ * files. Of ranges that share a scalar, which no call of the reader leaves, the first in the columns decides; a scalar in no range is
+ * EZH_BREAK_XX and EZH_WORD_OTHER. A text of any length is looked up. Results: EZH_CHECK_CELLS.
+ * Refusals: 9 (results), 3 (record) by rising index, and 9 where breaks or words has fewer cells than there are scalars.
+ */
+uint64_t ezh_lookup(const uint32_t *scalars, size_t scalars_count, const uint32_t *cluster_firsts, size_t cluster_firsts_count,
+                    const uint32_t *cluster_lasts, size_t cluster_lasts_count, const uint8_t *cluster_codes, size_t cluster_codes_count,
+                    size_t cluster_held, const uint32_t *word_firsts, size_t word_firsts_count, const uint32_t *word_lasts,
+                    size_t word_lasts_count, const uint8_t *word_codes, size_t word_codes_count, size_t word_held, uint8_t *breaks,
+                    size_t breaks_count, uint8_t *words, size_t words_count, uint64_t *results, size_t results_count);
 
 #ifdef __cplusplus
 }

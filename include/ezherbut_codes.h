@@ -239,6 +239,12 @@ enum {
     EZH_STRENGTH_KEEPALL = 2,
 };
 
+/* Property files: GraphemeBreakProperty.txt and WordBreakProperty.txt. */
+enum {
+    EZH_FILE_CLUSTER = 0,
+    EZH_FILE_WORD = 1,
+};
+
 /* What stands before a record: the answers of a run of lines. */
 enum {
     EZH_BOUNDARY_NONE = 0,

@@ -12,8 +12,7 @@ import real_labels
 import real_properties
 import unicode
 
-KINDS = "SMCWwsmclnL"  # which the program `replay` answers
-ASKED_FOR_KINDS = "F"  # which it does not answer yet: compared where they are asked for
+KINDS = "SMCWwsmclnLF"
 CHUNK = 20_000
 CLUSTER_PARTS = ("S", "M", "C", "exhaustive-S", "exhaustive-M", "exhaustive-C", "ordered-M", "ordered-C", "places")
 RUN_PARTS = ("runs-s", "runs-m", "runs-c", "runs-khmer", "split-runs", "damaged-runs")
@@ -39,7 +38,7 @@ class Comparison:
         self.differences = 0
 
     def is_chosen(self, line):
-        return line[:1] not in KINDS + ASKED_FOR_KINDS or line[:1] in self.kinds
+        return line[:1] not in KINDS or line[:1] in self.kinds
 
     def may_have_chosen(self, part):
         """A part of one kind alone says it at the end of its name; it need not be made for nothing."""

@@ -1,8 +1,7 @@
 #!/usr/bin/env python3
 """Do the fixed lists notice a wrong reading? Each mutant has one name, one number or one test
 of reading.py, line_reading.py or property_reading.py changed; the lists have to answer otherwise in some
-line (for property files, which they do not have yet, the corners). Prints each mutant that no list notices,
-and the count.
+line. Prints each mutant that no list notices, and the count.
 """
 
 import argparse
@@ -14,7 +13,6 @@ import signal
 import cases
 import line_reading
 import lists
-import property_cases
 import property_reading
 import reading
 
@@ -81,7 +79,7 @@ def mutants():
 
 
 def of_layout():
-    return [(line, answer) for line, answer in lists.pairs() if answer[:1] != "?"] + list(property_cases.corners())
+    return [(line, answer) for line, answer in lists.pairs() if answer[:1] != "?"]
 
 
 def take_place(programs):

@@ -291,6 +291,11 @@ def filled(line, size=MOST_BYTES, filler="#"):
     return line + filler * (size - len(line))
 
 
+def too_long():
+    """A block that is refused for its length alone, between two that are read."""
+    return case([("G", "41;L"), ("G", filled("", MOST_BYTES + 1)), ("G", "42;V")], scalars=(0x41, 0x42))
+
+
 def sizes():
     """1 at both edges, and before all else; long numbers, names, blanks; many lines; full sets; a lookup longer than a text."""
     for spare in (-1, 0, 1):

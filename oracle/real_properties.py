@@ -1,15 +1,18 @@
 #!/usr/bin/env python3
 """Unicode's own property files, GraphemeBreakProperty and WordBreakProperty, by the reading: cut into
 blocks of whole lines, read, and the classes of every scalar held against those that tools/property_files.py
-finds, which reads the files in another way. Prints what it found; fails where something is not so.
+finds, which reads the files in another way; with a program that reads cases, the classes that it finds too.
+Prints what it found; fails where something is not so.
 """
 
 import argparse
 import pathlib
 import random
 import re
+import shlex
 import sys
 
+import programs
 import property_cases
 import property_reading
 from property_reading import CLUSTER_CODES, LAST_SCALAR, MOST_BYTES, WORD_CODES
@@ -136,12 +139,17 @@ def as_text(file, blocks):
     return [(file, block.decode("latin-1")) for block in blocks]
 
 
+def both_files(folder):
+    """The blocks of both files, each as long as it may be."""
+    return [each for file in FILES for each in as_text(file, cut(content(folder, file)))]
+
+
 def whole_files(folder):
     """Both files whole: uncut, with cells that suffice and one less, with CR LF, twice, each as the other; then with every scalar."""
     data = {file: content(folder, file) for file in FILES}
     ranges = {file: held(cut(data[file]), file) for file in FILES}
     near = edges(ranges["G"] + ranges["W"])
-    both = [each for file in FILES for each in as_text(file, cut(data[file]))]
+    both = both_files(folder)
     enough = tuple(map(len, ranges.values()))
     cells = (property_cases.MOST_RANGES,) * 2
     yield property_cases.case([(file, text.decode("latin-1")) for file, text in data.items()], cells)
@@ -151,9 +159,15 @@ def whole_files(folder):
     yield property_cases.case([each for file in FILES for each in as_text(file, cut(data[file].replace(b"\n", b"\r\n")))], enough, near, -1)
     yield property_cases.case(both[::-1] + both, cells)
     yield property_cases.case([("W" if file == "G" else "G", text) for file, text in both], cells)
+    yield from (line for _, line in every_scalar(both, enough))
+
+
+def every_scalar(blocks, cells):
+    """Every scalar, in as many cases as it takes: the scalars that a case asks for, and the case."""
     text = list(filter(is_scalar, EVERY_SCALAR))
     for begin in range(0, len(text), MOST_ASKED):
-        yield property_cases.case(both, enough, text[begin:begin + MOST_ASKED])
+        asked = text[begin:begin + MOST_ASKED]
+        yield asked, property_cases.case(blocks, cells, asked)
 
 
 def damaged(folder, seed, count):
@@ -164,11 +178,38 @@ def damaged(folder, seed, count):
         yield from property_cases.damaged_lines(rng, file, lines, count)
 
 
+def classes_in(answer):
+    """The pairs of classes in a program's answer, once it has read all blocks."""
+    *verdicts, _, _, looked_up = answer.split("|")
+    if set(verdicts) != {"ok"} or looked_up.startswith("R "):
+        raise NotSo(f"the program refuses: {' '.join(verdicts)} {looked_up[:20]}")
+    return [tuple(map(int, item.split(","))) for item in looked_up.split(" ")]
+
+
+def check_program(folder, command):
+    """The classes of every scalar by a program that reads cases, held against the other parse."""
+    expected = expected_classes(folder)
+    asked, lines = zip(*every_scalar(both_files(folder), (property_cases.MOST_RANGES,) * 2))
+    count = 0
+    for scalars, answer in zip(asked, programs.answers(command, lines), strict=True):
+        for scalar, classes in zip(scalars, classes_in(answer), strict=True):
+            if classes != expected[scalar]:
+                raise NotSo(f"the program has other classes of U+{scalar:04X}: {classes}, not {expected[scalar]}")
+        count += len(scalars)
+    print(f"{count} scalars have the classes of the other parse by the program, {len(lines)} lines, the longest of {max(map(len, lines))} bytes")
+
+
 def main():
     options = argparse.ArgumentParser(description=__doc__, formatter_class=argparse.RawDescriptionHelpFormatter)
     options.add_argument("folder", type=pathlib.Path, help="has the files as Debian's unicode-data lays them out (/usr/share/unicode)")
-    folder = options.parse_args().folder
+    options.add_argument("--with", dest="program", metavar="COMMAND", help="a program which reads cases and prints answers: asked in place "
+                         "of the reading")
+    options = options.parse_args()
+    folder = options.folder
     try:
+        if options.program:
+            check_program(folder, shlex.split(options.program))
+            return 0
         check_names(folder)
         check_classes(folder, *(read_file(folder, file) for file in FILES))
     except NotSo as fault:

@@ -77,7 +77,10 @@ class Parts(unittest.TestCase):
     def test_property_files(self):
         self.assertEqual(self.sizes("--files", "7")["F"][0], 7)
         self.assertEqual((self.sizes()["F"][0], self.sizes("--short")["F"][0]), (100_000, 2_000))
-        self.assertEqual((len(self.sizes()["exhaustive-F"]), len(self.sizes("--short")["exhaustive-F"])), (27, 3))
+        long, short = self.sizes(), self.sizes("--short")
+        for part in ("exhaustive-F", "bytes-F", "names-F", "faults-F", "sizes-F"):
+            self.assertEqual((len(long[part]), len(short[part])), (27, 1), part)
+        self.assertEqual(len(short["corners-F"]), 27)
 
     def compared(self, *words):
         """The names of the parts that are made, and whether the published property files are."""
@@ -91,11 +94,12 @@ class Parts(unittest.TestCase):
                 compare.compared(judges, options)
             return made, files.called
 
-    def test_property_files_have_to_be_asked_for(self):
-        made, are_files_made = self.compared()
+    def test_the_kind_of_property_files(self):
+        for words in ((), ("--kinds", "F")):
+            made, are_files_made = self.compared(*words)
+            self.assertTrue(are_files_made and {*property_cases.RANDOM, *property_cases.FIXED} <= set(made), made)
+        made, are_files_made = self.compared("--kinds", "SlW")
         self.assertFalse(are_files_made or any(name.endswith("F") for name in made), made)
-        made, are_files_made = self.compared("--kinds", "F")
-        self.assertTrue(are_files_made and {*property_cases.RANDOM, *property_cases.FIXED} <= set(made), made)
 
 
 class Sources(unittest.TestCase):

@@ -127,17 +127,16 @@ class Parts(unittest.TestCase):
         self.compare(judges, "exhaustive-S", TEXT)
         self.assertEqual(judges.differences, 2)
 
-    def test_property_files_where_they_are_asked_for(self):
-        """The program `replay` does not answer them yet."""
-        wrong = changed(third, FILES, "? 1")
-        self.assertNotIn("F", comparison.KINDS)
-        judges = Comparison(rust, wrong)
-        self.assertEqual(self.compare(judges, "F", FILES), (0, ""))
-        self.assertFalse(any(judges.may_have_chosen(part) for part in property_cases.RANDOM | property_cases.FIXED))
+    def test_property_files(self):
+        """The Rust has no say."""
         judges = Comparison(rust, third, kinds="F")
         self.assertEqual(self.compare(judges, "F", FILES, TEXT), (1, "F: 1 cases, 0 by the Rust, 0 refused, 0 whole\n"))
         self.assertEqual(judges.differences, 0)
-        self.assert_differs(Comparison(rust, wrong, kinds="F"), "F", FILES, "the program against the judges", "expected ok|0041-0041.4||4,0")
+        wrong = changed(third, FILES, "? 1")
+        self.assert_differs(Comparison(rust, wrong), "F", FILES, "the program against the judges", "expected ok|0041-0041.4||4,0")
+        judges = Comparison(rust, wrong, kinds="W")
+        self.assertEqual(self.compare(judges, "F", FILES), (0, ""))
+        self.assertFalse(any(judges.may_have_chosen(part) for part in property_cases.RANDOM | property_cases.FIXED))
 
     def test_parts_that_there_are(self):
         self.assertLessEqual({*comparison.CLUSTER_PARTS, *comparison.RUN_PARTS}, {*generate.RANDOM, *generate.FIXED})

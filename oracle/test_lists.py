@@ -12,6 +12,7 @@ import line_reading
 import lists
 import loading
 import mutants
+import property_cases
 import property_reading
 import reading
 
@@ -51,6 +52,11 @@ class Order(unittest.TestCase):
     def test_the_corners_of_line_breaks_are_chosen(self):
         chosen = loading.command("oracle/make-lists").line_breaks()
         self.assertLessEqual({line for line, _ in line_cases.corners()}, set(chosen))
+
+
+    def test_the_corners_of_property_files_are_chosen(self):
+        chosen = loading.command("oracle/make-lists").property_files()
+        self.assertLessEqual({line for line, _ in property_cases.corners()} | {property_cases.too_long()}, set(chosen))
 
 
 class Mutants(unittest.TestCase):

@@ -28,10 +28,15 @@ class SmallFiles(unittest.TestCase):
         file = self.folder / name
         file.write_text(edit(file.read_text() if file.exists() else ""))
 
-    def run_over_them(self):
-        with (mock.patch.object(sys, "argv", ["real_properties.py", str(self.folder)]),
+    def run_over_them(self, *words):
+        with (mock.patch.object(sys, "argv", ["real_properties.py", str(self.folder), *words]),
               mock.patch("real_properties.EVERY_SCALAR", range(0xE010))):
             return printed(real_properties.main)
+
+    def run_with(self, program):
+        """A program is a function from lines to answers here."""
+        with mock.patch("programs.answers", lambda command, lines: program(list(lines))):
+            return self.run_over_them("--with", "the program")
 
     def assert_not_so(self, *words):
         status, output = self.run_over_them()
@@ -68,6 +73,22 @@ class SmallFiles(unittest.TestCase):
     def test_another_cut(self):
         with mock.patch("real_properties.other_cuts", lambda _: [[b"41;CR"], [b"\n"]]):
             self.assert_not_so("other ranges where it is cut into 1 blocks")
+
+    def test_a_program(self):
+        with mock.patch("real_properties.MOST_ASKED", 20_000):
+            status, output = self.run_with(lambda lines: list(cases.answers(lines)))
+        self.assertEqual(status, 0, output)
+        self.assertRegex(output, r"^55312 scalars have the classes of the other parse by the program, 3 lines, the longest of \d+ bytes\n$")
+
+    def test_a_program_that_is_wrong(self):
+        def wrong(edit):
+            status, output = self.run_with(lambda lines: [edit(answer) for answer in cases.answers(lines)])
+            self.assertEqual(status, 1)
+            return output
+
+        self.assertIn("the program has other classes of U+0000: (0, 1), not (0, 0)", wrong(lambda answer: answer.replace("|0,0", "|0,1")))
+        self.assertIn("the program refuses: R 12 3 l ok", wrong(lambda answer: answer.replace("ok", "R 12 3 l", 1)))
+        self.assertIn("the program refuses: ok ok R 9 0 -", wrong(lambda answer: answer[:answer.rindex("|")] + "|R 9 0 -"))
 
     def test_cutting(self):
         data = b"ab\nc\r\n\n0123456\nde"

@@ -235,6 +235,12 @@ pub mod strength {
     pub const KEEPALL: u64 = 2;
 }
 
+/// Property files: GraphemeBreakProperty.txt and WordBreakProperty.txt.
+pub mod file {
+    pub const CLUSTER: u64 = 0;
+    pub const WORD: u64 = 1;
+}
+
 /// What stands before a record: the answers of a run of lines.
 pub mod boundary {
     pub const NONE: u8 = 0;

@@ -121,6 +121,44 @@ extern "C" {
         results: *mut u64,
         results_count: usize,
     ) -> u64;
+    pub(crate) fn ezh_read_properties(
+        file: u64,
+        bytes: *const u8,
+        bytes_count: usize,
+        firsts: *mut u32,
+        firsts_count: usize,
+        lasts: *mut u32,
+        lasts_count: usize,
+        codes: *mut u8,
+        codes_count: usize,
+        held: usize,
+        results: *mut u64,
+        results_count: usize,
+    ) -> u64;
+    pub(crate) fn ezh_lookup(
+        scalars: *const u32,
+        scalars_count: usize,
+        cluster_firsts: *const u32,
+        cluster_firsts_count: usize,
+        cluster_lasts: *const u32,
+        cluster_lasts_count: usize,
+        cluster_codes: *const u8,
+        cluster_codes_count: usize,
+        cluster_held: usize,
+        word_firsts: *const u32,
+        word_firsts_count: usize,
+        word_lasts: *const u32,
+        word_lasts_count: usize,
+        word_codes: *const u8,
+        word_codes_count: usize,
+        word_held: usize,
+        breaks: *mut u8,
+        breaks_count: usize,
+        words: *mut u8,
+        words_count: usize,
+        results: *mut u64,
+        results_count: usize,
+    ) -> u64;
 }
 
 /// Calls one of the functions over a text.

@@ -1,4 +1,5 @@
-//! Every call in little stack: any accepted text in a thread of 256 KiB, a label of up to 256 tokens in 16 KiB.
+//! Every call in little stack: any accepted text and any lines of a property file in a thread of 256 KiB, a label of up to 256 tokens in
+//! 16 KiB.
 //!
 //! A thread of 16 KiB would not do: the system takes some of it for the thread itself, and the standard library for its start. So a label's
 //! calls are made deep down in the stack of a larger thread, where 16 KiB are left above the guard page; the binding's own frames are
@@ -9,7 +10,7 @@ use std::hint::black_box;
 use std::thread;
 
 use ezherbut::codes::{category, cluster_break, line_break, myanmar_class, use_class, word_break, PAIR_TABLE};
-use ezherbut::{line_run, word_check, word_run, BoundaryState, Columns, LineState, Mode, Parser, Strength, WordState};
+use ezherbut::{line_run, word_check, word_run, BoundaryState, Columns, LineState, Mode, Parser, Properties, Strength, WordState};
 
 const THREAD: usize = 256 * 1024;
 const LABEL: usize = 16 * 1024;
@@ -275,4 +276,23 @@ fn a_label_in_16_kib() {
             every_call(text, &mut out, |call| deep_down(low, LABEL, call));
         }
     });
+}
+
+#[test]
+fn a_property_file_in_256_kib() {
+    // as many ranges as one call takes in lines of this length
+    let count = 65_536 / "010000;L\n".len();
+    let lines: String = (0..count).map(|i| format!("{:06X};L\n", 0x10000 + i)).collect();
+    let scalars: Vec<u32> = (0x10000..0x10100).collect();
+    let (mut breaks, mut words) = (vec![0; 256], vec![0; 256]);
+    in_thread(|| {
+        let mut properties = Properties::new();
+        assert_eq!(properties.read_clusters(lines.as_bytes()), Ok(count));
+        let mut accepted = false;
+        deep_down(lowest(), LABEL, &mut || {
+            accepted = properties.classes_into(&scalars, &mut breaks, &mut words).is_ok();
+        });
+        assert!(accepted);
+    });
+    assert!(breaks.iter().all(|&code| code == cluster_break::L));
 }

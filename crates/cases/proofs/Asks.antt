@@ -18,16 +18,16 @@ use Rattle.lines.specs.declared.LineState.{LineState}
 use Rattle.lines.specs.declared.Previous.{Previous}
 use Rattle.lines.specs.declared.Previous.the-variants as Previous
 use Rattle.cases.specs.declared.layout.Line.{Line}
-use Rattle.cases.specs.declared.layout.Line.the-variants.{Skipped, NotOfLayout, Text, Words, Step, Lent}
+use Rattle.cases.specs.declared.layout.Line.the-variants.{Skipped, NotOfLayout, Text, Words, Step, Lent, Files}
 use Rattle.cases.specs.declared.layout.Task.the-variants.{LineStep, BoundaryStep, Boundaries}
 use Rattle.cases.specs.declared.layout.Asked.{Asked}
 use Rattle.cases.specs.declared.layout.Asked.the-variants.{Of, Nobody}
 use Rattle.cases.specs.declared.items.Kind.{Kind}
-use Rattle.cases.specs.declared.items.Kind.the-variants.{Record, Part, Word, Joint, Cell}
+use Rattle.cases.specs.declared.items.Kind.the-variants.{Record, Part, Word, Joint, Cell, Block, Scalar}
 use Rattle.cases.specs.declared.numbers.Number.{Number}
 use Rattle.cases.specs.declared.numbers.Number.the-variants.{Value, Nothing}
 use Rattle.cases.specs.Items.{itemsOf, isItem, fits, fieldOf}
-use Rattle.cases.specs.Lines.{skipped, askedOf, textIn, moded, textLine, wordsLine, stateOf, aheadOf, stepOf, named, previousOf, lineStateOf, boundaryOf, boundaries, lentLine, tableLine, kindLine, lineOf}
+use Rattle.cases.specs.Lines.{skipped, askedOf, textIn, moded, textLine, wordsLine, stateOf, aheadOf, stepOf, named, previousOf, lineStateOf, boundaryOf, boundaries, lentLine, tableLine, filesIn, kindLine, lineOf}
 use Rattle.cases.specs.Numbers.{numberOf, most16}
 use Rattle.cases.specs.Spans.{span, count, equal, letter}
 
@@ -185,6 +185,29 @@ module _ (kind : ℕ) (strength : Strength) (xs p : List ℕ) (t : Bool) (fp : p
     table-not k e = rw (← fp, ← et, h, ← ea, k) e
 
 pub ruleset tables = (table-own, table-lent, table-not)
+
+-- a line of property files
+module _ (xs p : List ℕ) (a : Number) (fp : p ≡ span 59 2 xs) (ea : a ≡ itemsOf Block p) where
+  pub files-no-blocks : a ≡ Nothing → NotOfLayout ≡ filesIn xs
+  unfolding filesIn
+  files-no-blocks h = rw (← fp, ← ea, h)
+
+  module _ (blocks : ℕ) (ha : a ≡ Value blocks) (q : List ℕ) (n : Number) (fq : q ≡ span 59 3 xs) (en : n ≡ numberOf 10 most16 q) where
+    pub files-no-cells : n ≡ Nothing → NotOfLayout ≡ filesIn xs
+    unfolding filesIn
+    files-no-cells h = rw (← fp, ← ea, ha, ← fq, ← en, h)
+
+    module _ (size : ℕ) (hn : n ≡ Value size) (o : List ℕ) (b : Number) (fo : o ≡ span 59 4 xs) (eb : b ≡ itemsOf Scalar o) where
+      pub files-no-scalars : b ≡ Nothing → NotOfLayout ≡ filesIn xs
+      unfolding filesIn
+      files-no-scalars h = rw (← fp, ← ea, ha, ← fq, ← en, hn, ← fo, ← eb, h)
+
+      pub files-read : (scalars : ℕ) → b ≡ Value scalars → (s : List ℕ) (k w : ℕ) → s ≡ span 59 1 xs → k ≡ fieldOf 10 most16 0 s → w ≡ fieldOf 10 most16 1 s
+          → Files k w blocks size scalars ≡ filesIn xs
+      unfolding filesIn
+      files-read scalars h s k w fs ek ew = rw (← fp, ← ea, ha, ← fq, ← en, hn, ← fo, ← eb, h, ← fs, ← ek, ← ew)
+
+pub ruleset files = (files-no-blocks, files-no-cells, files-no-scalars, files-read)
 
 -- any line
 module _ (xs : List ℕ) (t : Bool) (e : t ≡ skipped xs) where

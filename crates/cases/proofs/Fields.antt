@@ -6,17 +6,18 @@ use mathlib.Core.List.{List, _++_}
 use native.Mathlib.Omega.{arith}
 use lib.ListN.{length, drop, set, length-set}
 use lib.Seq.{length-take-le}
-use borrow.Author.Tests.{eq-eqb, ne-eqb}
+use borrow.Author.Tests.{eq-eqb, ne-eqb, lt-ltb, le-ltb}
 use Rattle.basics.specs.Columns.{cells}
 use Rattle.basics.proofs.Columns.{Written, written-more}
 use Rattle.basics.proofs.Sets.{every-more, every-fails}
 use Rattle.basics.specs.Sets.{every}
 use Rattle.io.specs.Counts.{Counts}
 use Rattle.cases.specs.declared.items.Kind.{Kind}
-use Rattle.cases.specs.declared.items.Kind.the-variants.{Record, Part, Word, State, Joint, Row, Ahead, Cell}
+use Rattle.cases.specs.declared.items.Kind.the-variants.{Record, Part, Word, State, Joint, Row, Ahead, Cell, Sets, Block, Scalar}
 use Rattle.cases.specs.declared.numbers.Number.{Number}
 use Rattle.cases.specs.declared.numbers.Number.the-variants.{Value, Nothing}
-use Rattle.cases.specs.Items.{commasOf, fits, recordField, partField, stateField, dashOr, rowField, cellField, isField, fieldFits, isItem, itemFits, itemCount, itemsOf, fieldOf, cellOf}
+use Rattle.cases.specs.Blocks.{blockField}
+use Rattle.cases.specs.Items.{commasOf, fits, recordField, partField, stateField, dashOr, rowField, cellField, isField, fieldFits, isItem, itemFits, mostOf, itemCount, itemsOf, fieldOf, cellOf}
 use Rattle.cases.specs.Numbers.{numberOf, orZero}
 use Rattle.cases.specs.Spans.{span, count, letter, upTo, nextFrom, rest}
 use Rattle.cases.proofs.Digits.{read-within}
@@ -91,7 +92,19 @@ module _ (kind : Kind) (k : ℕ) (xs : List ℕ) (r : Bool) where
   unfolding isField
   of-cell h e = rw h e
 
-pub ruleset kinds = (of-record, of-part, of-word, of-state, of-joint, of-row, of-ahead, of-cell)
+  pub of-sets : kind ≡ Sets → r ≡ fits 10 4096 xs → r ≡ isField kind k xs
+  unfolding isField
+  of-sets h e = rw h e
+
+  pub of-block : kind ≡ Block → r ≡ blockField xs → r ≡ isField kind k xs
+  unfolding isField
+  of-block h e = rw h e
+
+  pub of-scalar : kind ≡ Scalar → r ≡ fits 16 4294967295 xs → r ≡ isField kind k xs
+  unfolding isField
+  of-scalar h e = rw h e
+
+pub ruleset kinds = (of-record, of-part, of-word, of-state, of-joint, of-row, of-ahead, of-cell, of-sets, of-block, of-scalar)
 
 -- the loop over the fields of an item; n and last are the commas that it has and should have
 module _ (kind : Kind) (item : List ℕ) (n last : ℕ) (en : n ≡ count 44 item) (el : last ≡ commasOf kind) where
@@ -136,9 +149,19 @@ module _ (kind : Kind) (xs : List ℕ) (i at : ℕ) (left : drop at xs ≡ rest 
       (let k : i < last + 1 = omega arith in
       rw (every-fails (itemFits kind xs) (last + 1) i k (sym here ∙ h)))
 
-  pub items-all : (length xs ≡ 0 → ⊥) → (last : ℕ) → last ≡ count 32 xs → i ≡ last → every (itemFits kind xs) i ≡ true → t ≡ true → (c : ℕ) → c ≡ itemCount last → Value c ≡ itemsOf kind xs
+  pub items-all : (length xs ≡ 0 → ⊥) → (last : ℕ) → last ≡ count 32 xs → i ≡ last → every (itemFits kind xs) i ≡ true → t ≡ true → (c : ℕ) → c ≡ itemCount kind last → Value c ≡ itemsOf kind xs
   unfolding itemsOf
-  items-all z last e l a h c ec = rw (ne-eqb _ _ z, ← e, ← l, items-more a h) (ap Value (ec ∙ ap itemCount (sym l)))
+  items-all z last e l a h c ec = rw (ne-eqb _ _ z, ← e, ← l, items-more a h) (ap Value (ec ∙ ap (itemCount kind) (sym l)))
+
+-- m is how many items of the kind are counted
+module _ (kind : Kind) (blanks m : ℕ) (e : m ≡ mostOf kind) where
+  pub count-below : blanks < m → blanks + 1 ≡ itemCount kind blanks
+  unfolding itemCount
+  count-below h = rw (← e, lt-ltb _ _ h)
+
+  pub count-above : m ≤ blanks → m + 1 ≡ itemCount kind blanks
+  unfolding itemCount
+  count-above h = rw (← e, le-ltb _ _ h)
 
 -- a loop that reads a column of any width, before item i of n, which begins at `at`
 abbrev pub Reading : (ℕ → ℕ) → List ℕ → List ℕ → ℕ → List ℕ → ℕ → ℕ → Type 0

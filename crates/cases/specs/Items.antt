@@ -7,13 +7,15 @@ use lib.ListN.{length}
 use Rattle.records.specs.Refusals.{most}
 use Rattle.basics.specs.Sets.{every}
 use Rattle.cases.specs.declared.items.Kind.{Kind}
-use Rattle.cases.specs.declared.items.Kind.the-variants.{Record, Part, Word, State, Joint, Row, Ahead, Cell}
+use Rattle.cases.specs.declared.items.Kind.the-variants.{Record, Part, Word, State, Joint, Row, Ahead, Cell, Sets, Block, Scalar}
 use Rattle.cases.specs.declared.numbers.Number.{Number}
 use Rattle.cases.specs.declared.numbers.Number.the-variants.{Value, Nothing}
+use Rattle.cases.specs.Blocks.{blockField}
 use Rattle.cases.specs.Numbers.{numberOf, isNumber, orZero, most16}
 use Rattle.cases.specs.Spans.{span, count, letter}
 
--- "record = 14 fields with commas between", a part and a word state have 4, a word has 2, a record of `next` 3, a line state 2
+-- "record = 14 fields with commas between", a part and a word state have 4, a word has 2, a record of `next` 3, a line state and
+-- the cells of two sets 2
 abbrev pub commasOf : Kind → ℕ
 commasOf Record = 13
 commasOf Part = 3
@@ -23,6 +25,9 @@ commasOf Joint = 2
 commasOf Row = 1
 commasOf Ahead = 0
 commasOf Cell = 0
+commasOf Sets = 1
+commasOf Block = 0
+commasOf Scalar = 0
 
 -- digits of a radix, and nothing else, with a value up to the largest
 unfoldable pub fits : ℕ → ℕ → List ℕ → Bool
@@ -54,7 +59,11 @@ cellField xs =
     cond (eqb (count 42 xs) 0) (fits 10 255 xs)
     (cond (eqb (count 42 xs) 1) (cond (fits 10 most16 (span 42 0 xs)) (fits 10 255 (span 42 1 xs)) false) false)
 
--- field k of an item; "word = 2 decimals up to 255", a record of `next` 3
+-- as many cells as a line can give to a set of ranges
+abbrev pub mostRanges : ℕ
+mostRanges = 4096
+
+-- field k of an item; "word = 2 decimals up to 255", a record of `next` 3; the cells of two sets, "decimals up to 4,096"
 unfoldable pub isField : Kind → ℕ → List ℕ → Bool
 isField Record k xs = recordField k xs
 isField Part k xs = partField k xs
@@ -64,6 +73,9 @@ isField Joint k xs = fits 10 255 xs
 isField Row k xs = rowField k xs
 isField Ahead k xs = dashOr xs
 isField Cell k xs = cellField xs
+isField Sets k xs = fits 10 mostRanges xs
+isField Block k xs = blockField xs
+isField Scalar k xs = fits 16 4294967295 xs
 
 unfoldable pub fieldFits : Kind → List ℕ → ℕ → Bool
 fieldFits kind item k = isField kind k (span 44 k item)
@@ -78,15 +90,37 @@ itemFits kind xs i = isItem kind (span 32 i xs)
 abbrev pub tooMany : ℕ
 tooMany = 4097
 
--- one more than the blanks; 4,097 stands for any number above 4,096
-unfoldable pub itemCount : ℕ → ℕ
-itemCount blanks = cond (ltb blanks most) (blanks + 1) tooMany
+-- more than a line of 1 MiB has blocks
+abbrev pub mostBlocks : ℕ
+mostBlocks = 524288
+
+-- more than a line of 1 MiB has scalars of three digits; no lookup has cells for as many
+abbrev pub mostScalars : ℕ
+mostScalars = 262144
+
+-- how many items of a kind are counted
+abbrev pub mostOf : Kind → ℕ
+mostOf Record = most
+mostOf Part = most
+mostOf Word = most
+mostOf State = most
+mostOf Joint = most
+mostOf Row = most
+mostOf Ahead = most
+mostOf Cell = most
+mostOf Sets = most
+mostOf Block = mostBlocks
+mostOf Scalar = mostScalars
+
+-- one more than the blanks; of a text 4,097 stands for any number above 4,096
+unfoldable pub itemCount : Kind → ℕ → ℕ
+itemCount kind blanks = cond (ltb blanks (mostOf kind)) (blanks + 1) (mostOf kind + 1)
 
 -- "empty, or items with exactly one blank between, none before or after": their number
 unfoldable pub itemsOf : Kind → List ℕ → Number
 itemsOf kind xs =
     cond (eqb (length xs) 0) (Value 0)
-    (cond (every (itemFits kind xs) (count 32 xs + 1)) (Value (itemCount (count 32 xs))) Nothing)
+    (cond (every (itemFits kind xs) (count 32 xs + 1)) (Value (itemCount kind (count 32 xs))) Nothing)
 
 -- the value of field k of an item
 unfoldable pub fieldOf : ℕ → ℕ → ℕ → List ℕ → ℕ

@@ -17,11 +17,11 @@ use Rattle.lines.specs.declared.LineState.{LineState}
 use Rattle.lines.specs.declared.Previous.{Previous}
 use Rattle.lines.specs.declared.Previous.the-variants as Previous
 use Rattle.cases.specs.declared.layout.Line.{Line}
-use Rattle.cases.specs.declared.layout.Line.the-variants.{Skipped, NotOfLayout, Text, Words, Step, Lent}
+use Rattle.cases.specs.declared.layout.Line.the-variants.{Skipped, NotOfLayout, Text, Words, Step, Lent, Files}
 use Rattle.cases.specs.declared.layout.Task.the-variants.{LineStep, BoundaryStep, Boundaries}
 use Rattle.cases.specs.declared.layout.Asked.{Asked}
 use Rattle.cases.specs.declared.layout.Asked.the-variants.{Of, Nobody}
-use Rattle.cases.specs.declared.items.Kind.the-variants.{Record, Part, Word, State, Joint, Row, Ahead, Cell}
+use Rattle.cases.specs.declared.items.Kind.the-variants.{Record, Part, Word, State, Joint, Row, Ahead, Cell, Sets, Block, Scalar}
 use Rattle.cases.specs.declared.numbers.Number.{Number}
 use Rattle.cases.specs.declared.numbers.Number.the-variants.{Value, Nothing}
 use Rattle.cases.specs.Items.{itemsOf, isItem, fits, fieldOf}
@@ -169,12 +169,28 @@ strengthLine kind xs =
     (cond (equal (span 59 1 xs) (66 ∷ 114 ∷ 101 ∷ 97 ∷ 107 ∷ 65 ∷ 108 ∷ 108 ∷ [])) (tableLine kind BreakAll xs)
     (cond (equal (span 59 1 xs) (75 ∷ 101 ∷ 101 ∷ 112 ∷ 65 ∷ 108 ∷ 108 ∷ [])) (tableLine kind KeepAll xs) NotOfLayout))
 
+abbrev pub filesWith : ℕ → ℕ → Number → Number → Number → Line
+filesWith clusters words (Value blocks) (Value size) (Value scalars) = Files clusters words blocks size scalars
+filesWith clusters words (Value blocks) (Value size) Nothing = NotOfLayout
+filesWith clusters words (Value blocks) Nothing scalars = NotOfLayout
+filesWith clusters words Nothing size scalars = NotOfLayout
+
+unfoldable pub filesIn : List ℕ → Line
+filesIn xs =
+    filesWith (fieldOf 10 most16 0 (span 59 1 xs)) (fieldOf 10 most16 1 (span 59 1 xs))
+    (itemsOf Block (span 59 2 xs)) (numberOf 10 most16 (span 59 3 xs)) (itemsOf Scalar (span 59 4 xs))
+
+-- "F;G,W;BLOCKS;OUT;SCALARS"
+unfoldable pub filesLine : List ℕ → Line
+filesLine xs = cond (eqb (count 59 xs) 4) (cond (isItem Sets (span 59 1 xs)) (filesIn xs) NotOfLayout) NotOfLayout
+
 -- the kinds, by the number of semicolons
 unfoldable pub kindLine : ℕ → List ℕ → Line
 kindLine kind xs =
     cond (eqb (count 59 xs) 5) (textLine kind xs)
     (cond (eqb (count 59 xs) 2) (cond (eqb kind 87) (wordsLine xs) NotOfLayout)
-    (cond (eqb (count 59 xs) 3) (cond (eqb kind 119) (stepLine xs) NotOfLayout) (strengthLine kind xs)))
+    (cond (eqb (count 59 xs) 3) (cond (eqb kind 119) (stepLine xs) NotOfLayout)
+    (cond (eqb kind 70) (filesLine xs) (strengthLine kind xs))))
 
 unfoldable pub lineOf : List ℕ → Line
 lineOf xs = cond (skipped xs) Skipped (kindLine (letter (span 59 0 xs)) xs)

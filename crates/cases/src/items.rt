@@ -1,4 +1,5 @@
 // Items with one blank between, each of fields with one comma between: whether they are of the layout, and their number.
+use crate::blocks::is_block;
 use crate::numbers::Base;
 use crate::numbers::MOST16;
 use crate::numbers::Number;
@@ -13,7 +14,7 @@ ghost use mathlib.Core.Path.{_≡_};
 ghost use Prim.Native.Nat.{_≤_};
 ghost use Rattle.cases.specs.Numbers.{radixOf};
 ghost use Rattle.cases.specs.Items as Items;
-ghost use Rattle.cases.specs.Items.{commasOf, recordField, partField, stateField, dashOr, rowField, cellField, isField, isItem, itemCount, itemsOf};
+ghost use Rattle.cases.specs.Items.{commasOf, recordField, partField, stateField, dashOr, rowField, cellField, isField, isItem, mostBlocks, mostOf, itemCount, itemsOf};
 
 // What an item is.
 pub enum Kind {
@@ -29,6 +30,12 @@ pub enum Kind {
     Ahead,
     // A table's cell, or so many of them.
     Cell,
+    // The cells of two sets of ranges.
+    Sets,
+    // A file's letter, and bytes of it.
+    Block,
+    // A scalar alone.
+    Scalar,
 }
 
 fn commas(kind: Kind) -> usize
@@ -44,6 +51,9 @@ fn commas(kind: Kind) -> usize
         Kind::Row => 1,
         Kind::Ahead => 0,
         Kind::Cell => 0,
+        Kind::Sets => 1,
+        Kind::Block => 0,
+        Kind::Scalar => 0,
     }
 }
 
@@ -136,6 +146,9 @@ fn is_field(kind: Kind, k: usize, digits: &[u8]) -> bool
         Kind::Row => is_row_field(k, digits),
         Kind::Ahead => is_dash_or(digits),
         Kind::Cell => is_cell_field(digits),
+        Kind::Sets => fits(digits, Base::Decimal, 4096),
+        Kind::Block => is_block(digits),
+        Kind::Scalar => fits(digits, Base::Hexadecimal, 0xFFFFFFFF),
     }
 }
 
@@ -157,19 +170,43 @@ pub fn is_item(item: &[u8], kind: Kind) -> bool
     true
 }
 
-// One item more than a text may have.
-pub const TOO_MANY: u32 = 4097;
+// More than a line of 1 MiB has blocks.
+const MOST_BLOCKS: usize = 524288;
 
-fn item_count(blanks: usize) -> u32
-    ensures { λ r. ⌜ r ≡ itemCount blanks ⌝ }
+// More than a line of 1 MiB has scalars of three digits; no lookup has cells for as many.
+pub const MOST_SCALARS: usize = 262144;
+
+// As many items as a text may have. What property files are asked has no such bound, but the line's.
+fn most_items(kind: Kind) -> usize
+    ensures { λ r. ⌜ r ≡ mostOf kind ⌝ }
+    ensures { λ r. ⌜ r ≤ mostBlocks ⌝ }
 {
-    if blanks < MOST {
-        return blanks as u32 + 1;
+    match kind {
+        Kind::Record => MOST,
+        Kind::Part => MOST,
+        Kind::Word => MOST,
+        Kind::State => MOST,
+        Kind::Joint => MOST,
+        Kind::Row => MOST,
+        Kind::Ahead => MOST,
+        Kind::Cell => MOST,
+        Kind::Sets => MOST,
+        Kind::Block => MOST_BLOCKS,
+        Kind::Scalar => MOST_SCALARS,
     }
-    TOO_MANY
 }
 
-// The number of items, or nothing where one is not of the layout. Of any more than a text may have, `TOO_MANY` are enough to be refused.
+fn item_count(kind: Kind, blanks: usize) -> u32
+    ensures { λ r. ⌜ r ≡ itemCount kind blanks ⌝ }
+{
+    let most = most_items(kind);
+    if blanks < most {
+        return blanks as u32 + 1;
+    }
+    most as u32 + 1
+}
+
+// The number of items, or nothing where one is not of the layout. Of any more than a text may have, one more is enough to be refused.
 pub fn count_items(section: &[u8], kind: Kind) -> Number
     ensures { λ r. ⌜ r ≡ itemsOf kind (now (section .entry)) ⌝ }
 {
@@ -188,7 +225,7 @@ pub fn count_items(section: &[u8], kind: Kind) -> Number
         }
     }
     if is_item(span_at(section, at, b' '), kind) {
-        return Number::Value(item_count(last));
+        return Number::Value(item_count(kind, last));
     }
     Number::Nothing
 }

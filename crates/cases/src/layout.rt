@@ -1,5 +1,6 @@
 // The lines: what each asks for, in the order of oracle/README.md.
 use crate::columns::field8;
+use crate::files::files_line;
 use crate::items::Kind;
 use crate::items::count_items;
 use crate::items::fits;
@@ -53,6 +54,15 @@ pub enum Line {
         strength: Strength,
         own: bool,
         task: Task,
+    },
+    // The cells of the sets of cluster breaks and of words; the blocks are items of part 2 of the line, whose bytes `bytes` reads; the
+    // cells of the looked up columns; the scalars are read by `column32` from part 4.
+    Files {
+        clusters: u16,
+        words: u16,
+        blocks: u32,
+        cells: u32,
+        scalars: u32,
     },
 }
 
@@ -430,6 +440,9 @@ fn kind_line(line: &[u8], kind: u8) -> Line
             return step_line(line);
         }
         return Line::NotOfLayout;
+    }
+    if kind == b'F' {
+        return files_line(line);
     }
     strength_line(line, kind)
 }

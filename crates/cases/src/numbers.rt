@@ -17,7 +17,7 @@ pub enum Number {
 }
 
 // What no digit has.
-const NO_DIGIT: u64 = 16;
+pub(crate) const NO_DIGIT: u64 = 16;
 
 fn radix(base: Base) -> u64
     ensures { λ r. ⌜ r ≡ radixOf base ⌝ }
@@ -29,7 +29,7 @@ fn radix(base: Base) -> u64
     }
 }
 
-fn digit(byte: u8) -> u64
+pub(crate) fn digit(byte: u8) -> u64
     ensures { λ r. ⌜ r ≡ digitOf byte ⌝ }
 {
     let x = byte as u64;

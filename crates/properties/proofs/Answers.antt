@@ -2,7 +2,7 @@
 use Prim.Native.Nat.{ℕ, zero, suc, _+_, _<_, _≤_, min}
 use mathlib.Core.Path.{_≡_, refl, sym, _∙_, ap}
 use mathlib.Core.Bool.{Bool, true, false}
-use mathlib.Core.List.{List, [], _∷_, _++_}
+use mathlib.Core.List.{List, [], _∷_}
 use mathlib.Core.Logic.{⊎-elim}
 use native.Mathlib.Nat.{eq-or-lt-of-le}
 use native.Mathlib.Numerals.{add-one}
@@ -16,9 +16,9 @@ use Rattle.basics.proofs.Columns.{written-cell, kept-cell}
 use Rattle.records.specs.Text.{cell}
 use Rattle.records.specs.Refusals.{refuse, _⊳_, over}
 use Rattle.records.specs.Offences.{ByTable}
-use Rattle.records.specs.declared.Side.the-variants.{Record, Neither}
+use Rattle.records.specs.declared.Side.the-variants.{Neither}
 use Rattle.records.specs.declared.Verdict.{Verdict}
-use Rattle.records.specs.declared.Verdict.the-variants.{Accepted, Refused}
+use Rattle.records.specs.declared.Verdict.the-variants.{Accepted}
 use Rattle.records.proofs.Tables.{by-table}
 use Rattle.records.proofs.Judged.{alone, over-same}
 use Rattle.records.proofs.Unique.{unique}

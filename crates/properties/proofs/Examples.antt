@@ -16,8 +16,8 @@ use Rattle.properties.specs.declared.Value.the-variants.{Found, Unknown}
 use Rattle.properties.specs.declared.Line.{Line}
 use Rattle.properties.specs.declared.Line.the-variants.{Skipped, Malformed, Range}
 use Rattle.properties.specs.Rulings.{rulingOf}
-use Rattle.properties.specs.Ranges.{ranges}
-use Rattle.properties.specs.Reading.{some, share, meetsLine, metHeld, metEarlier, metBy, takenBy, judgeLine, cellsOf, readVerdict}
+use Rattle.properties.specs.Ranges.{Ranges, ranges}
+use Rattle.properties.specs.Reading.{heldFrom, said, share, met, judgeLine, cellsOf, readVerdict, putIn, putAll, upward, stored, readRanges}
 use Rattle.properties.specs.Names.{ascii, among, codeOf}
 use Rattle.properties.specs.Lines.{isBlank, leading, ending, untailed, trimmed, withoutCR, bodyOf, scalarsOf, valueOf, isBetween, noValue, hex, firstOf, lastOf, lineOf, valueIn}
 
@@ -83,14 +83,26 @@ values : (cluster "Control" ≡ Found 1)
 unfolding cluster word codeOf among equal every agree
 values = (refl, refl, refl, refl, refl, refl, refl, refl, refl)
 
--- two lines that share a scalar, and two that touch; a fourth line that is not looked at any more, since the third finds no cell
-said : List ℕ → String → Verdict
-said cells bytes = readVerdict Cluster (ranges cells cells cells 0) (ascii bytes)
+-- two lines that share a scalar, and two that touch; a fourth line that is not looked at any more, since the third finds no cell; full
+-- cells and a range that meets
+told : ℕ → List ℕ → String → Verdict
+told held cells bytes = readVerdict Cluster (ranges cells cells cells held) (ascii bytes)
 
-verdicts : (said (0 ∷ 0 ∷ 0 ∷ []) "0041;Other\n0041;L" ≡ Refused (refusal 13 Neither 2))
-    × (said (0 ∷ 0 ∷ []) "0041;L\n0042;L\n" ≡ Accepted)
-    × (said (0 ∷ 0 ∷ []) "0041;L\n0042;L\n0043;L\nx" ≡ Refused (refusal 14 Neither 3))
-    × (said (0 ∷ []) "0041;L\n#\n0041;l" ≡ Refused (refusal 12 Neither 3))
-    × (said [] "" ≡ Accepted)
-unfolding said readVerdict over judgeLine metBy metHeld metEarlier some share meetsLine takenBy cellsOf rulingOf span rest valueIn codeOf among equal every agree lineOf bodyOf withoutCR upTo before after trimmed leading untailed ending isBlank scalarsOf valueOf isBetween noValue hex firstOf lastOf numberOf numberFrom digitOf
-verdicts = (refl, refl, refl, refl, refl)
+verdicts : (told 0 (0 ∷ 0 ∷ 0 ∷ []) "0041;Other\n0041;L" ≡ Refused (refusal 13 Neither 2))
+    × (told 0 (0 ∷ 0 ∷ []) "0041;L\n0042;L\n" ≡ Accepted)
+    × (told 0 (0 ∷ 0 ∷ []) "0041;L\n0042;L\n0043;L\nx" ≡ Refused (refusal 14 Neither 3))
+    × (told 0 (0 ∷ []) "0041;L\n#\n0041;l" ≡ Refused (refusal 12 Neither 3))
+    × (told 1 (0x41 ∷ []) "0041;L" ≡ Refused (refusal 13 Neither 1))
+    × (told 2 (0x41 ∷ []) "" ≡ Refused (refusal 14 Neither 0))
+    × (told 0 [] "" ≡ Accepted)
+unfolding told readVerdict over judgeLine heldFrom said met share cellsOf rulingOf span rest valueIn codeOf among equal every agree lineOf bodyOf withoutCR upTo before after trimmed leading untailed ending isBlank scalarsOf valueOf isBetween noValue hex firstOf lastOf numberOf numberFrom digitOf
+verdicts = (refl, refl, refl, refl, refl, refl, refl)
+
+-- a range before the held one and one behind it, in the order of the lines and in the other; the last cell keeps its content
+filled : String → Ranges
+filled bytes = readRanges Cluster (ranges (0x50 ∷ 7 ∷ 7 ∷ 7 ∷ []) (0x5F ∷ 7 ∷ 7 ∷ 7 ∷ []) (13 ∷ 7 ∷ 7 ∷ 7 ∷ []) 1) (ascii bytes)
+
+columns : (filled "0041..0042;L\n0060;V" ≡ ranges (0x41 ∷ 0x50 ∷ 0x60 ∷ 7 ∷ []) (0x42 ∷ 0x5F ∷ 0x60 ∷ 7 ∷ []) (4 ∷ 13 ∷ 5 ∷ 7 ∷ []) 3)
+    × (filled "0060;V\n0041..0042;L" ≡ ranges (0x41 ∷ 0x50 ∷ 0x60 ∷ 7 ∷ []) (0x42 ∷ 0x5F ∷ 0x60 ∷ 7 ∷ []) (4 ∷ 13 ∷ 5 ∷ 7 ∷ []) 3)
+unfolding filled readRanges putIn putAll upward stored readVerdict over judgeLine heldFrom said met share cellsOf rulingOf span rest valueIn codeOf among equal every agree lineOf bodyOf withoutCR upTo before after trimmed leading untailed ending isBlank scalarsOf valueOf isBetween noValue hex firstOf lastOf numberOf numberFrom digitOf
+columns = (refl, refl)

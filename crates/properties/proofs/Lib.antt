@@ -8,4 +8,13 @@ pub mod Fills
 pub mod Answers
 pub mod Rules
 pub mod Meetings
+pub mod Insertions
+pub mod Merges
+pub mod Fillings
+pub mod Notes
+pub mod Long
+pub mod Turns
 pub mod Outcomes
+pub mod Readings
+pub mod Refused
+pub mod Blocks

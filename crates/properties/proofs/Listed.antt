@@ -1,13 +1,13 @@
 -- The names of both files: no name stands twice in a file, the names have the codes of their list in order, and whatever is read is a code of
 -- that list. Each by one computed test. Assumes nothing.
 use Prim.Native.Nat.{ℕ, _<_}
-use mathlib.Core.Path.{_≡_, refl, sym, _∙_}
+use mathlib.Core.Path.{_≡_, refl}
 use mathlib.Core.Bool.{Bool, true, false, not, cond, _&&_, _||_}
 use mathlib.Core.List.{List, [], _∷_, _++_, map}
 use native.Mathlib.Omega.{arith}
 use lib.Dec.{ltb}
 use borrow.Author.Tests.{ltb-true}
-use Rattle.basics.proofs.Tests.{both, by-test}
+use Rattle.basics.proofs.Tests.{both}
 use Rattle.classes.specs.ClusterBreak as ClusterBreak
 use Rattle.classes.specs.WordBreak as WordBreak
 use Rattle.cases.specs.Spans.{agree, equal}

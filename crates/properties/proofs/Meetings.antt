@@ -1,27 +1,19 @@
--- Loops that look for a range that meets another, and for its place. Assumes nothing.
-use Prim.Native.Nat.{ℕ, zero, suc, _+_, _-_, _<_, _≤_}
-use mathlib.Core.Path.{_≡_, refl, sym, _∙_, ap}
-use mathlib.Core.Bool.{Bool, true, false, or-true}
+-- Ranges of columns that meet another, and a line's verdict. Assumes nothing.
+use Prim.Native.Nat.{ℕ, zero, suc, _+_, _<_, _≤_}
+use mathlib.Core.Path.{_≡_, sym, _∙_}
+use mathlib.Core.Bool.{Bool, true, false, _||_, or-true}
 use mathlib.Core.List.{List}
 use mathlib.Core.Logic.{⊎-elim}
-use native.Mathlib.Nat.{eq-or-lt-of-le, sub-zero}
+use native.Mathlib.Nat.{eq-or-lt-of-le}
 use native.Mathlib.Numerals.{add-one}
 use native.Mathlib.Omega.{arith}
-use lib.ListN.{length, drop}
-use lib.Dec.{leb}
-use Rattle.cases.specs.Spans.{upTo, rest, span}
-use Rattle.cases.proofs.Splits.{span-read}
 use Rattle.records.specs.Text.{cell}
-use Rattle.properties.specs.declared.File.{File}
-use Rattle.properties.specs.declared.Line.{Line}
-use Rattle.properties.specs.declared.Line.the-variants as Line
-use Rattle.properties.specs.declared.Ruling.{Ruling}
-use Rattle.properties.specs.declared.Ruling.the-variants as Ruling
 use Rattle.records.specs.declared.Verdict.{Verdict}
 use Rattle.records.specs.declared.Verdict.the-variants.{Accepted}
-use Rattle.properties.specs.Lines.{lineOf}
-use Rattle.properties.specs.Reading.{some, share, meetsLine, metHeld, metEarlier, metBy, holds, takenBy, refusedAt, judgeRuling, judgeLine}
-use Rattle.properties.specs.Rulings.{rulingOf}
+use Rattle.properties.specs.declared.Ruling.{Ruling}
+use Rattle.properties.specs.declared.Ruling.the-variants as Ruling
+use Rattle.properties.specs.Reading.{share, refusedAt}
+use Rattle.properties.specs.Inner.{some, metIn, metBy, judgeMet}
 
 module _ (p : ℕ → Bool) where
   pub some-more : (k : ℕ) → some p k ≡ false → p k ≡ false → some p (k + 1) ≡ false
@@ -38,106 +30,55 @@ module _ (p : ℕ → Bool) where
       (λ q. rw (some-hit n k q e) (or-true (p n)))
       (eq-or-lt-of-le most)
 
-module _ (first last : ℕ) (line : Line) where
-  pub meets-skipped : line ≡ Line.Skipped → false ≡ meetsLine first last line
-  unfolding meetsLine
-  meets-skipped e = rw e
-
-  pub meets-malformed : line ≡ Line.Malformed → false ≡ meetsLine first last line
-  unfolding meetsLine
-  meets-malformed e = rw e
-
-  pub meets-range : (f l : ℕ) (r : Bool) → line ≡ Line.Range f l → r ≡ share first last f l → r ≡ meetsLine first last line
-  unfolding meetsLine
-  meets-range f l r e k = rw e k
-
 -- t is what was said of the range at k
 module _ (firsts lasts : List ℕ) (n first last k : ℕ) where
   abbrev pub Unmet : Type 0
   Unmet = some (λ j. share first last (cell firsts j) (cell lasts j)) k ≡ false
 
   module _ (t : Bool) (s : t ≡ share first last (cell firsts k) (cell lasts k)) where
-    pub held-hit : k < n → t ≡ true → true ≡ metHeld firsts lasts n first last
-    unfolding metHeld
+    pub held-hit : k < n → t ≡ true → true ≡ metIn firsts lasts n first last
+    unfolding metIn
     held-hit h e = sym (some-hit (λ j. share first last (cell firsts j) (cell lasts j)) n k h (sym s ∙ e))
 
     pub held-more : Unmet → t ≡ false → some (λ j. share first last (cell firsts j) (cell lasts j)) (k + 1) ≡ false
     held-more u e = some-more (λ j. share first last (cell firsts j) (cell lasts j)) k u (sym s ∙ e)
 
-  pub held-over : Unmet → k ≡ n → false ≡ metHeld firsts lasts n first last
-  unfolding metHeld
+  pub held-over : Unmet → k ≡ n → false ≡ metIn firsts lasts n first last
+  unfolding metIn
   held-over u e = rw (← e) (sym u)
 
--- the same of the j-th line, which was cut out at `at`
-module _ (bytes : List ℕ) (first last k j : ℕ) where
-  abbrev pub Apart : Type 0
-  Apart = some (λ i. meetsLine first last (lineOf (span 10 i bytes))) j ≡ false
-
-  module _ (at : ℕ) (w : drop at bytes ≡ rest 10 j bytes) (part : List ℕ) (e : part ≡ upTo 10 (drop at bytes)) (line : Line) (l : line ≡ lineOf part) (t : Bool) (s : t ≡ meetsLine first last line) where
-    said : t ≡ meetsLine first last (lineOf (span 10 j bytes))
-    said = s ∙ ap (meetsLine first last) (l ∙ ap lineOf (span-read 10 bytes j at w part e))
-
-    pub earlier-hit : j < k → t ≡ true → true ≡ metEarlier bytes first last k
-    unfolding metEarlier
-    earlier-hit h q = sym (some-hit (λ i. meetsLine first last (lineOf (span 10 i bytes))) k j h (sym said ∙ q))
-
-    pub earlier-more : Apart → t ≡ false → some (λ i. meetsLine first last (lineOf (span 10 i bytes))) (j + 1) ≡ false
-    earlier-more u q = some-more (λ i. meetsLine first last (lineOf (span 10 i bytes))) j u (sym said ∙ q)
-
-  pub earlier-over : Apart → j ≡ k → false ≡ metEarlier bytes first last k
-  unfolding metEarlier
-  earlier-over u e = rw (← e) (sym u)
-
--- the range of a line, arm by arm; t is what was said of the held ranges, r of the earlier lines
-module _ (firsts lasts : List ℕ) (held : ℕ) (bytes : List ℕ) (k : ℕ) (ruling : Ruling) where
-  pub met-nothing : ruling ≡ Ruling.Nothing → false ≡ metBy firsts lasts held bytes k ruling
+-- the range of a line, arm by arm
+module _ (ruling : Ruling) (firsts lasts : List ℕ) (n : ℕ) where
+  pub met-nothing : ruling ≡ Ruling.Nothing → false ≡ metBy firsts lasts n ruling
   unfolding metBy
   met-nothing e = rw e
 
-  pub met-refused : (number : ℕ) → ruling ≡ Ruling.Refused number → false ≡ metBy firsts lasts held bytes k ruling
+  pub met-refused : (number : ℕ) → ruling ≡ Ruling.Refused number → false ≡ metBy firsts lasts n ruling
   unfolding metBy
   met-refused number e = rw e
 
-  module _ (first last code : ℕ) (e : ruling ≡ Ruling.Range first last code) (t : Bool) (s : t ≡ metHeld firsts lasts held first last) where
-    pub met-first : t ≡ true → true ≡ metBy firsts lasts held bytes k ruling
-    unfolding metBy
-    met-first h = rw (e, ← s, h)
-
-    pub met-later : t ≡ false → (r : Bool) → r ≡ metEarlier bytes first last k → r ≡ metBy firsts lasts held bytes k ruling
-    unfolding metBy
-    met-later h r q = rw (e, ← s, h) q
+  pub met-range : (first last code : ℕ) → ruling ≡ Ruling.Range first last code → (r : Bool) → r ≡ metIn firsts lasts n first last → r ≡ metBy firsts lasts n ruling
+  unfolding metBy
+  met-range first last code e r q = rw e q
 
 -- a ruling's verdict
-module _ (ruling : Ruling) (met full : Bool) (number : ℕ) where
-  pub judged-nothing : ruling ≡ Ruling.Nothing → Accepted ≡ judgeRuling ruling met full number
+module _ (ruling : Ruling) (before earlier full : Bool) (number : ℕ) where
+  pub judged-nothing : ruling ≡ Ruling.Nothing → Accepted ≡ judgeMet ruling (earlier || before) full number
   judged-nothing e = rw e
 
-  pub judged-refused : (refused : ℕ) (v : Verdict) → ruling ≡ Ruling.Refused refused → v ≡ refusedAt refused number → v ≡ judgeRuling ruling met full number
+  pub judged-refused : (refused : ℕ) (v : Verdict) → ruling ≡ Ruling.Refused refused → v ≡ refusedAt refused number → v ≡ judgeMet ruling (earlier || before) full number
   judged-refused refused v e k = rw e k
 
   module _ (first last code : ℕ) (e : ruling ≡ Ruling.Range first last code) where
-    pub judged-met : (v : Verdict) → met ≡ true → v ≡ refusedAt 13 number → v ≡ judgeRuling ruling met full number
-    judged-met v h k = rw (e, h) k
+    pub judged-before : (v : Verdict) → before ≡ true → v ≡ refusedAt 13 number → v ≡ judgeMet ruling (earlier || before) full number
+    judged-before v h k = rw (e, h, or-true earlier) k
 
-    pub judged-full : (v : Verdict) → met ≡ false → full ≡ true → v ≡ refusedAt 14 number → v ≡ judgeRuling ruling met full number
-    judged-full v h f k = rw (e, h, f) k
+    pub judged-earlier : (v : Verdict) → before ≡ false → earlier ≡ true → v ≡ refusedAt 13 number → v ≡ judgeMet ruling (earlier || before) full number
+    judged-earlier v b h k = rw (e, h) k
 
-    pub judged-passed : met ≡ false → full ≡ false → Accepted ≡ judgeRuling ruling met full number
-    judged-passed h f = rw (e, h, f)
+    module _ (b : before ≡ false) (h : earlier ≡ false) where
+      pub judged-full : (v : Verdict) → full ≡ true → v ≡ refusedAt 14 number → v ≡ judgeMet ruling (earlier || before) full number
+      judged-full v f k = rw (e, b, h, f) k
 
--- the k-th line, which was cut out at `at`
-module _ (file : File) (bytes : List ℕ) (k at : ℕ) (w : drop at bytes ≡ rest 10 k bytes) (part : List ℕ) (e : part ≡ upTo 10 (drop at bytes)) (taken : ℕ) (n : taken ≡ takenBy bytes k) where
-  cut : part ≡ span 10 k bytes
-  cut = span-read 10 bytes k at w part e
-
-  pub line-judged : (firsts lasts : List ℕ) (held room : ℕ) (ruling : Ruling) (met : Bool) (v : Verdict) → ruling ≡ rulingOf file part → met ≡ metBy firsts lasts held bytes k ruling → v ≡ judgeRuling ruling met (leb room taken) (k + 1) → v ≡ judgeLine file firsts lasts held room bytes k
-  unfolding judgeLine
-  line-judged firsts lasts held room ruling met v r m q =
-      let f : ruling ≡ rulingOf file (span 10 k bytes) = r ∙ ap (rulingOf file) cut in
-      q ∙ rw (m, f, n)
-
-  pub taken-more : (line : Line) (h : ℕ) → line ≡ lineOf part → h ≡ holds line → taken + h ≡ takenBy bytes (k + 1)
-  unfolding takenBy
-  taken-more line h l q =
-      let f : h ≡ holds (lineOf (span 10 k bytes)) = q ∙ ap holds (l ∙ ap lineOf cut) in
-      rw (add-one k, n, f)
+      pub judged-passed : full ≡ false → Accepted ≡ judgeMet ruling (earlier || before) full number
+      judged-passed f = rw (e, b, h, f)

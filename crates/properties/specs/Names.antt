@@ -68,6 +68,11 @@ wordNames =
     ∷ named "Regional_Indicator" WordBreak.RI
     ∷ []
 
+-- the numbers of the files
+abbrev pub fileCode : File → ℕ
+fileCode Cluster = 0
+fileCode Word = 1
+
 abbrev pub namesOf : File → List Named
 namesOf Cluster = clusterNames
 namesOf Word = wordNames

@@ -1,18 +1,20 @@
 // The Unicode property files: their value names, their lines, and range columns with their lookup.
-mod checks;
 mod lines;
 mod lookups;
 mod meets;
+mod merging;
 mod names;
 mod ranges;
+mod reading;
 mod rulings;
 mod verdicts;
 
-pub use checks::check;
 pub use lines::line_of;
 pub use lines::value_in;
 pub use lookups::lookup;
 pub use names::code_of;
+pub use reading::read;
+use records::Verdict;
 pub use rulings::ruling_of;
 
 // Which of the two property files.
@@ -45,4 +47,10 @@ pub enum Ruling {
     // 11 or 12
     Refused(u8),
     Range { first: u32, last: u32, code: u8 },
+}
+
+// What the reader answers: its verdict, and how many ranges are held then.
+pub struct Filled {
+    pub verdict: Verdict,
+    pub held: usize,
 }

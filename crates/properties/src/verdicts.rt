@@ -1,10 +1,7 @@
-// The refusals of the reader, line by line.
+// The lines in turn: each is judged, and its range is noted beside the columns, which do not change before all lines are judged.
 use crate::File;
-use crate::Line;
 use crate::Ruling;
-use crate::lines::line_of;
-use crate::meets::met_earlier;
-use crate::meets::met_held;
+use crate::meets::met_by;
 use crate::rulings::ruling_of;
 use cases::next_of;
 use cases::span_at;
@@ -12,15 +9,13 @@ use records::Refusal;
 use records::Side;
 use records::Verdict;
 ghost use mathlib.Core.Path.{_≡_};
-ghost use mathlib.Core.List.{List};
-ghost use Prim.Native.Nat.{_≤_, _+_};
-ghost use lib.Dec.{leb};
+ghost use mathlib.Core.Bool.{_||_};
+ghost use Prim.Native.Nat.{_<_};
 ghost use lib.ListN.{length};
-ghost use Rattle.records.specs.Refusals.{over};
 ghost use Rattle.properties.specs.Reading as Reading;
-ghost use Rattle.properties.specs.Reading.{metBy, judgeRuling, judgeLine};
+ghost use Rattle.properties.specs.Inner.{judgeMet, Lent, NotedBy, Collects};
 
-fn refused(number: u8, line: usize) -> Verdict
+pub(crate) fn refused(number: u8, line: usize) -> Verdict
     ensures { λ r. ⌜ r ≡ Reading.refusedAt number line ⌝ }
 {
     Verdict::Refused(Refusal {
@@ -30,8 +25,9 @@ fn refused(number: u8, line: usize) -> Verdict
     })
 }
 
-fn judge_ruling(ruling: Ruling, met: bool, full: bool, line: usize) -> Verdict
-    ensures { λ r. ⌜ r ≡ judgeRuling ruling met full line ⌝ }
+// `before` is whether its range meets one held, `earlier` one of an earlier line.
+fn judge_ruling(ruling: Ruling, before: bool, earlier: bool, full: bool, line: usize) -> Verdict
+    ensures { λ r. ⌜ r ≡ judgeMet ruling (earlier || before) full line ⌝ }
 {
     match ruling {
         Ruling::Nothing => Verdict::Accepted,
@@ -41,7 +37,10 @@ fn judge_ruling(ruling: Ruling, met: bool, full: bool, line: usize) -> Verdict
             last: _,
             code: _,
         } => {
-            if met {
+            if before {
+                return refused(13, line);
+            }
+            if earlier {
                 return refused(13, line);
             }
             if full {
@@ -52,70 +51,64 @@ fn judge_ruling(ruling: Ruling, met: bool, full: bool, line: usize) -> Verdict
     }
 }
 
-fn met_by(
-    firsts: &[u32],
-    lasts: &[u32],
-    held: usize,
-    bytes: &[u8],
-    k: usize,
-    ruling: Ruling,
-) -> bool
-    requires { ⌜ (held ≤ length (now firsts)) × (held ≤ length (now lasts)) ⌝ }
-    ensures { λ r. ⌜ r ≡ metBy (now (firsts .entry)) (now (lasts .entry)) held (now (bytes .entry)) k ruling ⌝ }
+// The range of a line goes behind the n that are noted.
+fn note(ruling: Ruling, firsts: &mut [u32], lasts: &mut [u32], codes: &mut [u8], n: usize) -> usize
+    requires { ⌜ (n < length (now firsts)) × ((n < length (now lasts)) × (n < length (now codes))) ⌝ }
+    ensures { λ r. ⌜ NotedBy ruling (now (firsts .entry)) (now (lasts .entry)) (now (codes .entry)) n r (now (firsts .exit)) (now (lasts .exit)) (now (codes .exit)) ⌝ }
 {
     match ruling {
-        Ruling::Nothing => false,
-        Ruling::Refused(_) => false,
-        Ruling::Range {
-            first,
-            last,
-            code: _,
-        } => {
-            if met_held(firsts, lasts, held, first, last) {
-                return true;
-            }
-            met_earlier(bytes, first, last, k)
+        Ruling::Nothing => n,
+        Ruling::Refused(_) => n,
+        Ruling::Range { first, last, code } => {
+            firsts[n] = first;
+            lasts[n] = last;
+            codes[n] = code;
+            n + 1
         }
     }
 }
 
-fn holds(line: Line) -> usize
-    ensures { λ r. ⌜ r ≡ Reading.holds line ⌝ }
-    ensures { λ r. ⌜ r ≤ 1 ⌝ }
-{
-    match line {
-        Line::Skipped => 0,
-        Line::Malformed => 0,
-        Line::Range { first: _, last: _ } => 1,
-    }
+// What the lines came to: their verdict, and how many ranges are noted.
+pub(crate) struct Collected {
+    pub verdict: Verdict,
+    pub count: usize,
 }
 
-// A text of n bytes has n + 1 lines at most; those past its last are empty.
-pub(crate) fn judge_lines(
+// The lent ranges come first, then the columns for what the lines hold.
+pub(crate) fn collect(
     file: File,
+    bytes: &[u8],
     firsts: &[u32],
     lasts: &[u32],
     held: usize,
-    room: usize,
-    bytes: &[u8],
-) -> Verdict
-    requires { ⌜ (held ≤ length (now firsts)) × ((held ≤ length (now lasts)) × (length (now bytes) ≤ 65536)) ⌝ }
-    ensures { λ r. ⌜ r ≡ over (judgeLine file (now (firsts .entry)) (now (lasts .entry)) held room (now (bytes .entry))) 0 (length (now (bytes .entry)) + 1) ⌝ }
+    free: usize,
+    new_firsts: &mut [u32],
+    new_lasts: &mut [u32],
+    new_codes: &mut [u8],
+) -> Collected
+    requires { ⌜ Lent (now bytes) (now firsts) (now lasts) held (now «new_firsts») (now «new_lasts») (now «new_codes») ⌝ }
+    ensures { λ r. ⌜ Collects file (now (bytes .entry)) (now (firsts .entry)) (now (lasts .entry)) held free r (now («new_firsts» .exit)) (now («new_lasts» .exit)) (now («new_codes» .exit)) ⌝ }
 {
     let mut at: usize = 0;
-    let mut taken: usize = 0;
     let mut k: usize = 0;
-    while k <= bytes.len() {
-        let line = span_at(bytes, at, b'\n');
-        let ruling = ruling_of(file, line);
-        let met = met_by(firsts, lasts, held, bytes, k, ruling);
-        let v = judge_ruling(ruling, met, room <= taken, k + 1);
+    let mut n: usize = 0;
+    while at < bytes.len() {
+        let ruling = ruling_of(file, span_at(bytes, at, b'\n'));
+        let before = met_by(ruling, firsts, lasts, held);
+        let earlier = met_by(ruling, new_firsts, new_lasts, n);
+        let v = judge_ruling(ruling, before, earlier, free <= n, k + 1);
         let Verdict::Accepted = v else {
-            return v;
+            return Collected {
+                verdict: v,
+                count: n,
+            };
         };
-        taken += holds(line_of(line));
+        n = note(ruling, new_firsts, new_lasts, new_codes, n);
         at = next_of(bytes, at, b'\n');
         k += 1;
     }
-    Verdict::Accepted
+    Collected {
+        verdict: Verdict::Accepted,
+        count: n,
+    }
 }

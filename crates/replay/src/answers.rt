@@ -1,5 +1,7 @@
 // The answer to one line.
 use crate::breaks::lent;
+use crate::files::Sizes;
+use crate::files::files;
 use crate::out;
 use crate::out::Buffer;
 use crate::refusals::refusal;
@@ -123,6 +125,23 @@ pub(crate) fn answer(to: &mut Buffer, at: usize, line: &[u8], number: u64) -> us
             task,
         } => {
             let end = lent(to, at, line, strength, own, task);
+            out::put(to, end, b'\n')
+        }
+        Line::Files {
+            clusters,
+            words,
+            blocks,
+            cells: size,
+            scalars,
+        } => {
+            let sizes = Sizes {
+                clusters,
+                words,
+                blocks,
+                scalars,
+                cells: size,
+            };
+            let end = files(to, at, line, sizes);
             out::put(to, end, b'\n')
         }
     }

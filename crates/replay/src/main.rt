@@ -2,6 +2,7 @@
 mod answers;
 mod breaks;
 mod clusters;
+mod files;
 mod out;
 mod refusals;
 mod texts;

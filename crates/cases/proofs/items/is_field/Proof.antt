@@ -51,6 +51,24 @@ enum-told-8 c = search needs
 is-cell-field-requires : tie.Need-is-cell-field-requires
 is-cell-field-requires c κs = search needs
 
+enum-told-9 : tie.Need-enum-told-9
+enum-told-9 c = search needs
+
+fits-requires-3 : tie.Need-fits-requires-3
+fits-requires-3 c κs = search needs
+
+enum-told-10 : tie.Need-enum-told-10
+enum-told-10 c = search needs
+
+is-block-requires : tie.Need-is-block-requires
+is-block-requires c κs = search needs
+
+enum-told-11 : tie.Need-enum-told-11
+enum-told-11 c = search needs
+
+fits-requires-4 : tie.Need-fits-requires-4
+fits-requires-4 c κs = search needs
+
 returns : tie.Need-returns
 returns c = search kinds
 
@@ -75,6 +93,15 @@ returns-7 c = search kinds
 returns-8 : tie.Need-returns-8
 returns-8 c = search kinds
 
+returns-9 : tie.Need-returns-9
+returns-9 c = search kinds
+
+returns-10 : tie.Need-returns-10
+returns-10 c = search kinds
+
+returns-11 : tie.Need-returns-11
+returns-11 c = search kinds
+
 pub is-field-spec : {M : Type 1} → statement M
 is-field-spec =
     tie.close
@@ -95,6 +122,12 @@ is-field-spec =
     is-dash-or-requires
     enum-told-8
     is-cell-field-requires
+    enum-told-9
+    fits-requires-3
+    enum-told-10
+    is-block-requires
+    enum-told-11
+    fits-requires-4
     returns
     returns-2
     returns-3
@@ -102,4 +135,7 @@ is-field-spec =
     returns-5
     returns-6
     returns-7
-    returns-8)
+    returns-8
+    returns-9
+    returns-10
+    returns-11)

@@ -31,11 +31,17 @@ returns-4 c = unfold kindLine in search asks depth 8
 returns-5 : tie.Need-returns-5
 returns-5 c = unfold kindLine in search asks depth 8
 
-strength-line-requires : tie.Need-strength-line-requires
-strength-line-requires c κs = search needs
+files-line-requires : tie.Need-files-line-requires
+files-line-requires c κs = search needs
 
 returns-6 : tie.Need-returns-6
 returns-6 c = unfold kindLine in search asks depth 8
+
+strength-line-requires : tie.Need-strength-line-requires
+strength-line-requires c κs = search needs
+
+returns-7 : tie.Need-returns-7
+returns-7 c = unfold kindLine in search asks depth 8
 
 pub kind-line-spec : {M : Type 1} → statement M
 kind-line-spec =
@@ -50,5 +56,7 @@ kind-line-spec =
     step-line-requires
     returns-4
     returns-5
+    files-line-requires
+    returns-6
     strength-line-requires
-    returns-6)
+    returns-7)

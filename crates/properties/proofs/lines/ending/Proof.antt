@@ -1,8 +1,7 @@
 use Rattle.properties.proofs.Grammar.{end-over, end-more, end-here}
 use Rattle.properties.specs.Lines.{ending}
-use native.Mathlib.Omega.{arith}
 use lib.ListN.{length}
-use mathlib.Core.Path.{_≡_, refl}
+use mathlib.Core.Path.{_≡_}
 use Prim.Native.Nat.{_≤_}
 use borrow.Author.Needs.{needs}
 use Rattle.properties.proofs.lines.ending.Statement.{statement}

@@ -1,6 +1,5 @@
 use Rattle.basics.proofs.Choices.{chains}
 use Rattle.properties.specs.Lines.{isBlank}
-use borrow.Author.Needs.{needs}
 use Rattle.properties.proofs.lines.is_blank.Statement.{statement}
 use Rattle.properties.proofs.lines.is_blank.Tie as tie
 

@@ -1,8 +1,7 @@
 use Rattle.properties.proofs.Grammar.{lead-over, lead-more, lead-here}
 use Rattle.properties.specs.Lines.{leading}
-use native.Mathlib.Omega.{arith}
 use lib.ListN.{length, drop}
-use mathlib.Core.Path.{_≡_, refl}
+use mathlib.Core.Path.{_≡_}
 use Prim.Native.Nat.{_+_, _-_, _≤_}
 use borrow.Author.Needs.{needs}
 use Rattle.properties.proofs.lines.leading.Statement.{statement}

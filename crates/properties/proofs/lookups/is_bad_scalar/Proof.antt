@@ -1,6 +1,5 @@
 use borrow.Author.Tests.{lt-ltb, le-ltb, le-leb, lt-leb}
 use Rattle.records.specs.Refusals.{badScalar}
-use borrow.Author.Needs.{needs}
 use Rattle.properties.proofs.lookups.is_bad_scalar.Statement.{statement}
 use Rattle.properties.proofs.lookups.is_bad_scalar.Tie as tie
 

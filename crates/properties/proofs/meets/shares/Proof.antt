@@ -1,6 +1,5 @@
 use borrow.Author.Tests.{le-leb, lt-leb}
 use Rattle.properties.specs.Reading.{share}
-use borrow.Author.Needs.{needs}
 use Rattle.properties.proofs.meets.shares.Statement.{statement}
 use Rattle.properties.proofs.meets.shares.Tie as tie
 

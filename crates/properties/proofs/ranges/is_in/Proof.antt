@@ -1,6 +1,5 @@
 use borrow.Author.Tests.{le-leb, lt-leb}
 use Rattle.properties.specs.Ranges.{isIn}
-use borrow.Author.Needs.{needs}
 use Rattle.properties.proofs.ranges.is_in.Statement.{statement}
 use Rattle.properties.proofs.ranges.is_in.Tie as tie
 

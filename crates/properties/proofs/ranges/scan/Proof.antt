@@ -1,6 +1,4 @@
 use Prim.Native.Nat.{_≤_, _-_}
-use mathlib.Core.Path.{refl}
-use native.Mathlib.Omega.{arith}
 use Rattle.properties.specs.Ranges.{ranges}
 use Rattle.properties.proofs.Hits.{Scanned, scan-all, scan-over, scan-hit, scan-pass}
 use borrow.Author.Needs.{needs}
