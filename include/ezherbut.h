@@ -12,7 +12,8 @@
  * A text is 18 columns, in this order in every call. Fourteen with a cell for each record: scalar, cluster break, USE class, Myanmar
  * class, category, word class, then the marks (0 no, 1 yes) emoji for the simple, the Myanmar and the complex parser, pictograph,
  * variation selector, decompose, then first part and count of parts. Four with a cell for each part: scalar, cluster break, USE class,
- * category. The codes, and the numbers of parsers, modes, strengths and answers, are in ezherbut_codes.h. A text has at most 4,096
+ * category. The complex parsers see the parts of a record that is marked decompose instead of it; one that has none is no token in crate
+ * mode, and stands for itself in whole mode. The codes, and the numbers of parsers, modes, strengths and answers, are in ezherbut_codes.h. A text has at most 4,096
  * records and 4,096 parts.
  *
  * A line table is one column of cells, in rows of 44: one for each line class, and one for the end of the text, which is never asked. A
@@ -198,7 +199,7 @@ uint64_t ezh_check(uint64_t parser, EZH_TEXT_PARAMETERS, uint64_t *results, size
  * three columns. Results: EZH_RUN_CELLS; clusters and characters are 0 with a refusal.
  * Refusals: 9 (results), 4 (parser, mode), 1 to 7, and 9 where the shortest of the three columns has fewer than twice as many cells as
  * the text has tokens. Simple and Myanmar have a token for each record, the complex parsers at most three: six cells for each record
- * are always enough.
+ * are always enough. In whole mode every record has a token.
  */
 uint64_t ezh_run(uint64_t parser, uint64_t mode, EZH_TEXT_PARAMETERS, uint32_t *oscalars, size_t oscalars_count,
                  uint8_t *oclasses, size_t oclasses_count, uint16_t *oclusters, size_t oclusters_count,

@@ -197,7 +197,7 @@ enum {
     EZH_KHMER = 3,
 };
 
-/* Modes: the answers of swash 0.2.10, or the same grammar without a repeated character. */
+/* Modes: the answers of swash 0.2.10, or the same grammar with no character repeated and no record lost. */
 enum {
     EZH_CRATE = 0,
     EZH_WHOLE = 1,

@@ -14,7 +14,8 @@ import unicode
 
 KINDS = "SMCWwsmclnLF"
 CHUNK = 20_000
-CLUSTER_PARTS = ("S", "M", "C", "exhaustive-S", "exhaustive-M", "exhaustive-C", "ordered-M", "ordered-C", "places")
+CLUSTER_PARTS = ("S", "M", "C", "exhaustive-S", "exhaustive-M", "exhaustive-C", "exhaustive-partless-C", "ordered-M", "ordered-C",
+                 "places")
 RUN_PARTS = ("runs-s", "runs-m", "runs-c", "runs-khmer", "split-runs", "damaged-runs")
 READ_STRIDE = 8  # the Rust answers every full run in crate mode, the reading one in so many: it is slow
 
@@ -105,7 +106,7 @@ class Comparison:
     def full_runs(self, lines, counts):
         """Full runs in crate mode, and the same in whole mode. The Rust answers crate mode, and by
         a law whole mode where its calls are ordinary. The reading answers whole mode, a share of
-        crate mode, and the refusals, which are the same in both."""
+        crate mode, and the refusals, which are the same in both where both see the same tokens."""
         whole = [generate.whole(line) for line in lines]
         read = list(cases.answers(whole))
         calls = self.rust(map(laws.stepping_twin, lines))
@@ -121,14 +122,18 @@ class Comparison:
 
     def crate_run(self, line, calls, whole, counts):
         """The answer to a full run in crate mode, from the Rust's calls and the reading's answer in
-        whole mode."""
+        whole mode, or in crate mode where the modes see other tokens."""
         rust = laws.rust_judgement(line, calls)
-        is_refused = whole.startswith("R ")
+        sees_more = laws.sees_more(line)
+        reading = cases.answer(line) if sees_more else whole
+        is_refused = reading.startswith("R ")
         if is_refused or rust == "-":
-            expect("the reading against the Rust", line, rust, "-" if is_refused else whole)
+            expect("the reading against the Rust", line, rust, "-" if is_refused else reading)
             counts["refused"] += 1
-            return whole
-        if laws.is_ordinary(calls):
+            return reading
+        if sees_more:
+            expect("the reading against the Rust", line, rust, reading)
+        elif laws.is_ordinary(calls):
             expect("a law of whole mode", line, rust, whole)
             counts["equal in whole mode"] += 1
         counts["by the Rust"] += 1

@@ -271,16 +271,16 @@ def complex_text(rng, parts):
 
 
 @lru_cache(maxsize=1 << 16)
-def width(item, khmer):
+def width(item, khmer, in_whole_mode):
     """How many tokens of complex a record gives, if a sign has its part."""
     fields = item.split(",")
     is_sign = khmer and int(fields[0], 16) in KHMER_SIGNS
-    return int(fields[13]) if fields[11] == "1" else 2 if is_sign else 1
+    return max(int(fields[13]), in_whole_mode) if fields[11] == "1" else 2 if is_sign else 1
 
 
-def token_count(text, khmer):
+def token_count(text, khmer, in_whole_mode=False):
     """How many tokens complex sees; every sign in these texts has its part."""
-    return sum([width(item, khmer) for item in text])
+    return sum([width(item, khmer, in_whole_mode) for item in text])
 
 
 def random_simple(rng, count):
@@ -309,9 +309,11 @@ def random_full_runs(rng, count):
     for number in range(count):
         kind, mode, script, _, records, parts = next(makers[number % 3]).split(";")
         text = records.split(" ") if records else []
-        tokens = token_count(text, script == "K") if kind == "C" else len(text)
-        cells = max(0, 2 * tokens + rng.choice([0, 0, 1, 9, -1, -2 * tokens]))
-        yield f"{kind.lower()};{rng.choice([mode, 'whole'])};{script};{cells};{records};{parts}"
+        spare = rng.choice([0, 0, 1, 9, -1, None])
+        mode = rng.choice([mode, "whole"])
+        tokens = token_count(text, script == "K", mode == "whole") if kind == "C" else len(text)
+        cells = 0 if spare is None else max(0, 2 * tokens + spare)
+        yield f"{kind.lower()};{mode};{script};{cells};{records};{parts}"
 
 
 # ---- Exhaustive short texts -----------------------------------------------------------------
@@ -347,6 +349,29 @@ def exhaustive_complex():
     alphabet = [USE_BY_KIND[kind] for kind in "B GB VS H SUB CMBlw MBlw N HN S SMBlw R".split()]
     for text in itertools.product(alphabet + [JOINER, khmer_sign(0x17BE)], repeat=4):
         yield case("C", 0, text, PARTS[:1], "K")
+
+
+def without_parts(item):
+    """The same record, marked and without parts."""
+    return ",".join([*item.split(",")[:11], "1", "0", "0"])
+
+
+# What the rules look at, each as a record that stands for itself in whole mode.
+WITHOUT_PARTS = [without_parts(item) for item in (
+    USE_BY_KIND["B"], USE_BY_KIND["VPre"], USE_BY_KIND["H"], COENG, khmer_sign(0x17BE), khmer_sign(0x17C5, complex_=1),
+    EMOJI, *EMOJI_TAIL[:5], JOINER, *STANDING_ALONE[:3])]
+
+
+def exhaustive_without_parts():
+    """Marked records without parts: every place of texts of up to two, one past the end of both
+    modes too, and texts of three from the start."""
+    others = [USE_BY_KIND["B"], EMOJI, JOINER, khmer_sign(0x17BE), marked(1, 3)]
+    for text in all_texts(WITHOUT_PARTS + others, 2):
+        for script in "-K":
+            for place in range(token_count(text, script == "K", True) + 2):
+                yield case("C", place, text, PARTS, script)
+    for text in itertools.product(WITHOUT_PARTS + others, repeat=3):
+        yield case("C", 0, text, PARTS, "K")
 
 
 MYANMAR_PREFIXES = ["C", "IV VS", "D H IV VS", "DB VPst", "C PT"]
@@ -817,12 +842,13 @@ ROOM = [0] * 20 + [1, 2, 100, -1]
 
 
 def random_runs(stock, rng, count):
-    """Full runs of one parser, into cells that just suffice, or more, or one less."""
+    """Full runs of one parser, into cells that just suffice, or more, or one less: in crate mode, and
+    for every other text in whole mode."""
     for _ in range(count):
         text = perhaps_noisy(rng, with_odd(rng, stock, run_text(rng, stock)))
         parts = run_parts(rng) if stock.kind == "c" else []
         text = perhaps_damaged(rng, with_splits(rng, text, parts) if parts else text)
-        tokens = token_count(text, stock.script == "K") if stock.kind == "c" else len(text)
+        tokens = token_count(text, stock.script == "K", len(text) % 2 == 1) if stock.kind == "c" else len(text)
         yield case(stock.kind, max(0, 2 * tokens + rng.choice(ROOM)), text, parts, stock.script)
 
 
@@ -872,6 +898,7 @@ RANDOM = {"S": random_simple, "M": random_myanmar, "C": random_complex, "W": ran
           "runs-c": partial(random_runs, complex_stock("-")), "runs-khmer": partial(random_runs, complex_stock("K")),
           **line_cases.RANDOM, **property_cases.RANDOM}
 FIXED = {"exhaustive-S": exhaustive_simple, "exhaustive-M": exhaustive_myanmar, "exhaustive-C": exhaustive_complex,
+         "exhaustive-partless-C": exhaustive_without_parts,
          "ordered-M": ordered_myanmar, "ordered-C": ordered_complex, "places": exhaustive_places,
          "steps": word_steps, "exhaustive-W": exhaustive_words, "refusals": refusals,
          "long": long_refusals, "layout": not_of_layout, "split-runs": split_runs,

@@ -5,6 +5,7 @@ import re
 
 NOT_OF_THE_RUST = ("F",)  # property files
 CALL = re.compile(r"(\d+)>(\d+):([^:]*):")
+PARTLESS = re.compile(r",1,\d+,0(?: |$)")  # the end of a record that is marked and has no parts
 
 
 def stepping_twin(line):
@@ -50,15 +51,31 @@ def passed_and_taken(call):
 
 def is_ordinary(crate):
     """Whether the calls of crate mode have no cluster of 32 and no repeat (b): whole mode has the
-    same ones then."""
+    same ones then, of the same tokens."""
     return all(passed == taken for passed, taken in map(passed_and_taken, crate.split("|")[1:]))
+
+
+def sees_more(line):
+    """Whether whole mode has tokens that crate mode lacks: for complex, a marked record without
+    parts (SCOPE 12.3)."""
+    kind, *fields = line.split(";")
+    return kind in ("C", "c") and len(fields) == 5 and bool(PARTLESS.search(fields[3]))
+
+
+def missing_records(line, calls):
+    """How many records are no pushed character's, and how many tokens are noted."""
+    characters = [character.split(".") for call in calls for character in CALL.match(call)[3].split(",")]
+    records = line.split(";")[4]
+    count = len(records.split(" ")) if records else 0
+    return count - len({record for _, _, record, _ in characters}), sum(int(noted) for *_, noted in characters)
 
 
 def whole_fault(line, crate, whole):
     """What is wrong with an answer in whole mode, or None."""
-    if crate[:2] in ("R ", "? "):
+    is_bound = not sees_more(line)
+    if crate[:2] in ("R ", "? ") and (is_bound or crate[:4] != "R 8 " or whole[:4] == "R 8 "):
         return None if crate[:2] == whole[:2] else "refused in one mode only"
-    if is_ordinary(crate) and whole != crate:
+    if is_bound and is_ordinary(crate) and whole != crate:
         return "no cluster of 32, no repeat, and still other answers than crate mode: " + whole
     tokens, *calls = whole.split("|")
     if any(passed != taken for passed, taken in map(passed_and_taken, calls)):
@@ -69,4 +86,7 @@ def whole_fault(line, crate, whole):
         if start != place:
             return "a gap between calls: " + whole
         place = following
-    return None if place == tokens else "the end is not reached: " + whole
+    if place != tokens:
+        return "the end is not reached: " + whole
+    missing, noted = missing_records(line, calls)
+    return "a record that is neither pushed nor noted: " + whole if line.split(";")[3] == "0" and missing > noted else None

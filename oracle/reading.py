@@ -172,12 +172,13 @@ def part_token(part, index):
                  CATEGORY[part.category], 0, 0, index)
 
 
-def token_stream(records, parts, parser, khmer):
+def token_stream(records, parts, parser, khmer, mode):
+    """In whole mode a marked record without parts stands for itself (SCOPE 12.3)."""
     tokens = []
     for index, record in enumerate(records):
         itself = record_token(record, index, parser)
         own_parts = parts[record.first:record.first + record.count]
-        if parser == "complex" and record.decompose:
+        if parser == "complex" and record.decompose and (own_parts or mode == CRATE):
             tokens += [part_token(part, index) for part in own_parts]
         elif is_split(record, parser, khmer):
             tokens += [part_token(own_parts[0], index), itself._replace(emoji=0)]
@@ -580,7 +581,7 @@ def stepping(records, parts, place, mode, parser, khmer):
     refusal = check(records, parts, parser, khmer)
     if refusal:
         return refusal
-    tokens = token_stream(records, parts, parser, khmer)
+    tokens = token_stream(records, parts, parser, khmer, mode)
     if place > len(tokens):
         return Refusal(8)
     return tokens, calls_from(tokens, place, mode, parser, khmer)
@@ -591,7 +592,7 @@ def full_run(records, parts, cells, mode, parser, khmer):
     refusal = check(records, parts, parser, khmer)
     if refusal:
         return refusal
-    tokens = token_stream(records, parts, parser, khmer)
+    tokens = token_stream(records, parts, parser, khmer, mode)
     if cells < 2 * len(tokens):
         return Refusal(9)
     calls = calls_from(tokens, 0, mode, parser, khmer)

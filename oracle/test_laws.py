@@ -13,6 +13,8 @@ PLAIN = generate.case("S", 0, generate.SIMPLE_KINDS[:2])
 FULL = generate.case("S", 0, [generate.SIMPLE_KINDS[0]] + [MARK] * 31)
 KINZI = generate.case("M", 0, [choices[0] for choices in generate.KINZI])
 NOTED = generate.case("S", 0, [generate.EMOJI, generate.EMOJI_TAIL[0]])
+# a base, and a marked record without parts
+ALONE = generate.case("C", 0, [generate.USE_BY_KIND["B"], generate.WITHOUT_PARTS[1]])
 
 
 def fault(line, crate, whole):
@@ -46,11 +48,28 @@ class WholeMode(unittest.TestCase):
         self.assertEqual(ordinary, [True, True, False, False])
 
     def test_right_answers(self):
-        for line in (PLAIN, NOTED, FULL, KINZI, PLAIN.replace("0061", "D800")):
+        for line in (PLAIN, NOTED, FULL, KINZI, ALONE, ALONE.replace(";0;", ";2;", 1), ALONE.replace(";0;", ";3;", 1),
+                     PLAIN.replace("0061", "D800")):
             self.assertIsNone(fault(line, cases.answer(line), cases.answer(generate.whole(line))))
 
     def test_refused_in_one_mode(self):
         self.assertIn("one mode only", fault(PLAIN, "R 3 0 r", cases.answer(PLAIN)))
+
+    def test_sees_more(self):
+        parts = ["0061,1,0,0"]  # which ends as such a record does
+        for line, expected in ((ALONE, True), (ALONE.replace("C", "c", 1), True), (ALONE.replace("C", "S", 1), False), (PLAIN, False),
+                               (generate.case("C", 0, [generate.marked(0, 1)], parts), False), ("C;crate", False)):
+            self.assertEqual(laws.sees_more(generate.whole(line)), expected, line)
+
+    def test_refused_in_one_mode_where_whole_mode_sees_more(self):
+        place = ALONE.replace(";0;", ";2;", 1)
+        self.assertEqual((cases.answer(place), cases.answer(generate.whole(place))), ("R 8 0 -", "2"))
+        self.assertIn("one mode only", fault(ALONE, "R 3 0 r", cases.answer(generate.whole(ALONE))))
+
+    def test_a_record_in_no_cluster(self):
+        self.assertIn("neither pushed nor noted", fault(ALONE, cases.answer(ALONE), cases.answer(ALONE)))
+        noted = generate.case("C", 0, [generate.EMOJI, generate.WITHOUT_PARTS[7]])
+        self.assertIsNone(fault(noted, cases.answer(noted), cases.answer(generate.whole(noted))))
 
     def test_other_answers_where_crate_mode_is_ordinary(self):
         self.assertIn("other answers", fault(PLAIN, cases.answer(PLAIN), "2|0>2:0061.0.0.0,0085.0.1.0:n-.."))

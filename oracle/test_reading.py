@@ -102,6 +102,24 @@ class Corners(unittest.TestCase):
         answer = cases.answer(case("C", 0, [EMOJI] + [marked] * 4095, parts))
         self.assertEqual(answer, "12286|0>12286:1F600.0.0.12285:C-..")
 
+    def test_a_marked_record_without_parts(self):
+        sign = generate.without_parts(generate.khmer_sign(0x17BE, complex_=1))
+        for script in "-K":
+            text = case("C", 0, [sign], script=script)
+            self.assertEqual((cases.answer(text), cases.answer(whole(text))), ("0", "1|0>1:17BE.0.0.0:D-.."))
+        for kind in "SM":
+            self.assertEqual(cases.answer(case(kind, 0, [sign])), cases.answer(whole(case(kind, 0, [sign]))))
+        text = case("C", 0, [generate.marked(0, 1)], generate.PARTS)
+        self.assertEqual(cases.answer(text), cases.answer(whole(text)))
+
+    def test_its_place_and_room(self):
+        for place, crate, of_whole in ((0, "0", "1|0>1:0900.0.0.0:n-.."), (1, "R 8 0 -", "1"), (2, "R 8 0 -", "R 8 0 -")):
+            text = case("C", place, generate.WITHOUT_PARTS[:1])
+            self.assertEqual((cases.answer(text), cases.answer(whole(text))), (crate, of_whole))
+        for cells, of_whole in ((0, "R 9 0 -"), (1, "R 9 0 -"), (2, "1 1|0900.0.0")):
+            text = case("c", cells, generate.WITHOUT_PARTS[:1])
+            self.assertEqual((cases.answer(text), cases.answer(whole(text))), ("0 0|", of_whole))
+
     def test_word_step(self):
         self.assertEqual(cases.answer("w;1,0,1,2;0,0;-"), "1;0,0,1,2")
         self.assertEqual(cases.answer("w;0,8,1,2;0,0;-"), "0;0,0,0,2")

@@ -193,7 +193,7 @@ pub mod parser {
     pub const KHMER: u64 = 3;
 }
 
-/// Modes: the answers of swash 0.2.10, or the same grammar without a repeated character.
+/// Modes: the answers of swash 0.2.10, or the same grammar with no character repeated and no record lost.
 pub mod mode {
     pub const CRATE: u64 = 0;
     pub const WHOLE: u64 = 1;

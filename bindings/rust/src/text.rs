@@ -134,7 +134,27 @@ impl Text {
         self.scalars.is_empty()
     }
 
-    /// One more record, without parts.
+    /// One more record, without parts. Where it is marked decompose all the same, it is no token of the complex parser in crate mode, as
+    /// in swash; in whole mode it stands for itself.
+    ///
+    /// ```
+    /// use ezherbut::codes::{category, cluster_break, myanmar_class, use_class, word_break};
+    /// use ezherbut::{Marks, Mode, Parser, Record, Text};
+    ///
+    /// let mut text = Text::new();
+    /// text.push(Record {
+    ///     scalar: 0x17BE,
+    ///     cluster_break: cluster_break::SM,
+    ///     use_class: use_class::VABV,
+    ///     myanmar_class: myanmar_class::REST,
+    ///     category: category::OTHER,
+    ///     word: word_break::EXTEND,
+    ///     marks: Marks { decompose: true, ..Marks::NONE },
+    /// });
+    /// assert_eq!(text.clusters(Parser::Khmer, Mode::Crate).count(), 0);
+    /// let whole: Result<Vec<_>, _> = text.clusters(Parser::Khmer, Mode::Whole).collect();
+    /// assert_eq!(whole.unwrap()[0].characters[0].record, 0);
+    /// ```
     pub fn push(&mut self, record: Record) {
         self.push_with_parts(record, &[]);
     }

@@ -72,8 +72,8 @@ impl Lent {
         Lent {
             decomposes: vec![decompose; n],
             counts: vec![count; n],
-            // an unmarked sign that Khmer splits is its part and itself
-            tokens: n * usize::from(if decompose == 1 { count } else { 1 + count }),
+            // an unmarked sign that Khmer splits is its part and itself; a marked record without parts stands for itself in whole mode
+            tokens: n * usize::from(if decompose == 1 { count.max(1) } else { 1 + count }),
             ..text
         }
     }

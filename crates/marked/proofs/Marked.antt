@@ -62,7 +62,7 @@ pub marked : (length table ≡ 16) × ((map {B = ℕ} length table ≡ replicate
 marked = (refl, (refl, ap later (computed .0)))
 
 -- and so the corners of SCOPE 6
-pub read : (length readings ≡ 7) × (map given readings ≡ map told readings)
+pub read : (length readings ≡ 9) × (map given readings ≡ map told readings)
 read = (refl, ap first (computed .0))
 
 -- Ruled out is "one whose first call swallows the text and whose others find nothing" (SCOPE 10): it does not meet the stepping call's

@@ -31,21 +31,26 @@ use Rattle.segment.specs.declared.What.{What}
 use Rattle.segment.specs.declared.What.the-variants.{Found, Over, Refused}
 use Rattle.words.specs.Run.{runCells}
 
--- what a case says of a record: its scalar, its class for the parser of the case, whether it is an emoji, its count of parts
+-- what a case says of a record: its scalar, its class for the parser of the case, whether it is an emoji, whether it is marked decompose,
+-- its count of parts
 pub record Character : Type 0 where
   pub scalar : ℕ
   pub class : ℕ
   pub emoji : ℕ
+  pub decompose : ℕ
   pub count : ℕ
 
 abbrev pub character : ℕ → ℕ → Character
-character scalar class = record { scalar = scalar; class = class; emoji = 0; count = 0 }
+character scalar class = record { scalar = scalar; class = class; emoji = 0; decompose = 0; count = 0 }
 
 abbrev pub emoji : ℕ → Character
-emoji scalar = record { scalar = scalar; class = Break.XX; emoji = 1; count = 0 }
+emoji scalar = record { scalar = scalar; class = Break.XX; emoji = 1; decompose = 0; count = 0 }
 
 abbrev pub split : ℕ → ℕ → Character
-split scalar class = record { scalar = scalar; class = class; emoji = 0; count = 1 }
+split scalar class = record { scalar = scalar; class = class; emoji = 0; decompose = 0; count = 1 }
+
+abbrev pub alone : ℕ → ℕ → Character
+alone scalar class = record { scalar = scalar; class = class; emoji = 0; decompose = 1; count = 0 }
 
 -- a cell for each character, all the same
 abbrev pub all : List Character → ℕ → List ℕ
@@ -75,8 +80,8 @@ unfoldable pub textFor : Parser → List Character → List Character → Text
 textFor parser characters parts =
     textOf (map (λ (s : Character). s .scalar) characters) (breaksFor parser characters) (usesFor parser characters) (myanmarsFor parser characters)
     (all characters Category.Other) (all characters Word.Other)
-    (map (λ (s : Character). s .emoji) characters) (all characters 0) (all characters 0) (all characters 0) (all characters 0) (all characters 0)
-    (all characters 0) (map (λ (s : Character). s .count) characters)
+    (map (λ (s : Character). s .emoji) characters) (all characters 0) (all characters 0) (all characters 0) (all characters 0)
+    (map (λ (s : Character). s .decompose) characters) (all characters 0) (map (λ (s : Character). s .count) characters)
     (map (λ (s : Character). s .scalar) parts) (all parts Break.XX) (map (λ (s : Character). s .class) parts) (all parts Category.Other)
 
 abbrev pub standing : Parser → Mode → ℕ → Segmenter

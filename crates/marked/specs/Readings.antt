@@ -1,4 +1,4 @@
--- Corners of the parsers that could be read otherwise (SCOPE 6), each on its smallest text.
+-- Corners of the parsers that could be read otherwise (SCOPE 6, 12.3), each on its smallest text.
 use mathlib.Core.List.{List, [], _∷_, _++_}
 use lib.ListN.{replicate}
 use Rattle.classes.specs.ClusterBreak as Break
@@ -6,10 +6,10 @@ use Rattle.classes.specs.MyanmarClass as Myanmar-class
 use Rattle.classes.specs.Scalar as Scalar
 use Rattle.classes.specs.UseClass as Use
 use Rattle.classes.specs.declared.Shape.the-variants.{Base, Mark, Control, Reph, Other}
-use Rattle.records.specs.declared.Parser.the-variants.{Simple, Myanmar, Complex}
+use Rattle.records.specs.declared.Parser.the-variants.{Simple, Myanmar, Complex, Khmer}
 use Rattle.parse.specs.declared.Space.the-variants.{Newline}
 use Rattle.parse.specs.State.{noInfo}
-use Rattle.marked.specs.Cases.{Case, clusters, both, character, call, char, chars, spaced, broken, normal, label, kinzi}
+use Rattle.marked.specs.Cases.{Case, clusters, both, character, alone, call, char, chars, spaced, broken, normal, label, kinzi}
 
 -- a U+034F with which a call begins goes by its class: no step leads onto it (6.2)
 abbrev pub joinerBegins : Case
@@ -56,5 +56,16 @@ prependedMark =
     both Simple (character 0x600 Break.PP ∷ character 0x301 Break.EX ∷ [])
     (call (char 0x600 Base 0 ∷ char 0x301 Mark 1 ∷ []) (normal broken) 2 ∷ [])
 
+-- a marked record without parts is no token in crate mode, and in whole mode it stands for itself (12.3)
+abbrev pub aloneGiven : Case
+aloneGiven = clusters Complex (alone 0x958 Use.B ∷ []) [] [] (call (char 0x958 Base 0 ∷ []) noInfo 1 ∷ [])
+
+-- and nothing is put before a sign of Khmer
+abbrev pub aloneSign : Case
+aloneSign =
+    clusters Khmer (character 0x1780 Use.B ∷ alone 0x17BE Use.VAbv ∷ []) []
+    (call (char 0x1780 Base 0 ∷ []) noInfo 1 ∷ [])
+    (call (char 0x1780 Base 0 ∷ char 0x17BE Other 1 ∷ []) noInfo 2 ∷ [])
+
 abbrev pub readings : List Case
-readings = joinerBegins ∷ viramaOfC ∷ joinerOfC ∷ joinerParts ∷ rephTakesNewline ∷ rephAlone ∷ prependedMark ∷ []
+readings = joinerBegins ∷ viramaOfC ∷ joinerOfC ∷ joinerParts ∷ rephTakesNewline ∷ rephAlone ∷ prependedMark ∷ aloneGiven ∷ aloneSign ∷ []

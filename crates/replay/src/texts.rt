@@ -65,6 +65,7 @@ fn calls<'s, 'a>(
 
 fn token_count<'s, 'a>(
     parser: Parser,
+    mode: Mode,
     wides: &'s [&'a [u32]; 2],
     bytes: &'s [&'a [u8]; 15],
     firsts: &'a [u16],
@@ -72,8 +73,8 @@ fn token_count<'s, 'a>(
     match parser {
         Parser::Simple => record_count(wides, bytes, firsts),
         Parser::Myanmar => record_count(wides, bytes, firsts),
-        Parser::Complex => stream::count(false, wides, bytes, firsts),
-        Parser::Khmer => stream::count(true, wides, bytes, firsts),
+        Parser::Complex => stream::count(mode, false, wides, bytes, firsts),
+        Parser::Khmer => stream::count(mode, true, wides, bytes, firsts),
     }
 }
 
@@ -92,7 +93,8 @@ fn steps<'s, 'a>(
         return refusal(to, at, r);
     }
     let parser = s.parser;
-    let n = token_count(parser, wides, bytes, firsts);
+    let mode = s.mode;
+    let n = token_count(parser, mode, wides, bytes, firsts);
     let end = out::decimal(to, at, n as u64);
     calls(to, end, s, wides, bytes, firsts)
 }

@@ -74,11 +74,11 @@ module _ (mode : Mode) (parser : Parser) (t : Text) where
   unfolding streamOf
   stream-myanmar e = rw e
 
-  pub stream-complex : parser ≡ Complex → streamOf mode parser t ≡ gather (split false (sourceOf (t .records) (t .records .uses) (t .records .cemojis)) (splitsOf (t .records)) (t .parts)) 0 (length (t .records .scalars))
+  pub stream-complex : parser ≡ Complex → streamOf mode parser t ≡ gather (split mode false (sourceOf (t .records) (t .records .uses) (t .records .cemojis)) (splitsOf (t .records)) (t .parts)) 0 (length (t .records .scalars))
   unfolding streamOf
   stream-complex e = rw e
 
-  pub stream-khmer : parser ≡ Khmer → streamOf mode parser t ≡ gather (split true (sourceOf (t .records) (t .records .uses) (t .records .cemojis)) (splitsOf (t .records)) (t .parts)) 0 (length (t .records .scalars))
+  pub stream-khmer : parser ≡ Khmer → streamOf mode parser t ≡ gather (split mode true (sourceOf (t .records) (t .records .uses) (t .records .cemojis)) (splitsOf (t .records)) (t .parts)) 0 (length (t .records .scalars))
   unfolding streamOf
   stream-khmer e = rw e
 
@@ -92,24 +92,24 @@ module _ (mode : Mode) (parser : Parser) (t : Text) where
       record { few = few parser t (accepted-sound parser t e); room = stream-room mode parser t (accepted-sound parser t e) }
 
 -- a count of so many is the number of tokens
-split-counted : (khmer : Bool) (t : Text) → length (t .records .scalars) ≤ 4096 →
-    countFrom khmer (t .records .scalars) (t .records .decomposes) (t .records .counts) 0 (min (length (t .records .scalars)) most)
-    ≡ length (gather (split khmer (sourceOf (t .records) (t .records .uses) (t .records .cemojis)) (splitsOf (t .records)) (t .parts)) 0 (length (t .records .scalars)))
-split-counted khmer t h =
+split-counted : (mode : Mode) (khmer : Bool) (t : Text) → length (t .records .scalars) ≤ 4096 →
+    countFrom mode khmer (t .records .scalars) (t .records .decomposes) (t .records .counts) 0 (min (length (t .records .scalars)) most)
+    ≡ length (gather (split mode khmer (sourceOf (t .records) (t .records .uses) (t .records .cemojis)) (splitsOf (t .records)) (t .parts)) 0 (length (t .records .scalars)))
+split-counted mode khmer t h =
     let m : min (length (t .records .scalars)) most ≡ length (t .records .scalars) = omega arith in
-    rw m (sym (count-stream khmer (sourceOf (t .records) (t .records .uses) (t .records .cemojis)) (splitsOf (t .records)) (t .parts) (length (t .records .scalars)) 0))
+    rw m (sym (count-stream mode khmer (sourceOf (t .records) (t .records .uses) (t .records .cemojis)) (splitsOf (t .records)) (t .parts) (length (t .records .scalars)) 0))
 
-pub counted : (mode : Mode) (parser : Parser) (t : Text) → length (t .records .scalars) ≤ 4096 → tokenCount parser t ≡ length (streamOf mode parser t)
+pub counted : (mode : Mode) (parser : Parser) (t : Text) → length (t .records .scalars) ≤ 4096 → tokenCount mode parser t ≡ length (streamOf mode parser t)
 unfolding streamOf
 counted mode Simple t h = sym (length-records (sourceOf (t .records) (t .records .breaks) (t .records .semojis)) (length (t .records .scalars)) 0)
 counted mode Myanmar t h = sym (length-records (sourceOf (t .records) (t .records .myanmars) (t .records .memojis)) (length (t .records .scalars)) 0)
-counted mode Complex t h = split-counted false t h
-counted mode Khmer t h = split-counted true t h
+counted mode Complex t h = split-counted mode false t h
+counted mode Khmer t h = split-counted mode true t h
 
-pub fits-in : (mode : Mode) (parser : Parser) (t : Text) (m r : ℕ) → Streamed mode parser t → r ≡ tokenCount parser t → r ≤ m → length (streamOf mode parser t) ≤ m
+pub fits-in : (mode : Mode) (parser : Parser) (t : Text) (m r : ℕ) → Streamed mode parser t → r ≡ tokenCount mode parser t → r ≤ m → length (streamOf mode parser t) ≤ m
 fits-in mode parser t m r w e h = omega (arith, e, counted mode parser t (w .few))
 
-pub count-fits : (mode : Mode) (parser : Parser) (t : Text) (r : ℕ) → Streamed mode parser t → r ≡ tokenCount parser t → length (streamOf mode parser t) ≤ r
+pub count-fits : (mode : Mode) (parser : Parser) (t : Text) (r : ℕ) → Streamed mode parser t → r ≡ tokenCount mode parser t → length (streamOf mode parser t) ≤ r
 count-fits mode parser t r w e = omega (arith, e, counted mode parser t (w .few))
 
 module _ (s : Segmenter) (t : Text) where

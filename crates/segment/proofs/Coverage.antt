@@ -1,9 +1,9 @@
 -- What the theorems of Demands.antt rest on: the four outcomes of a stepping call, and what one call's characters and those of all calls
 -- cover. Assumes nothing.
 use Prim.Native.Nat.{ℕ, zero, suc, _+_, _-_, _*_, _<_, _≤_}
-use mathlib.Core.Path.{_≡_, refl, sym, subst}
+use mathlib.Core.Path.{_≡_, refl, sym, _∙_, ap, subst}
 use mathlib.Core.List.{List, [], _∷_, _++_}
-use mathlib.Core.Logic.{⊎-elim}
+use mathlib.Core.Logic.{inl, inr, ⊎-elim}
 use native.Mathlib.Nat.{eq-or-lt-of-le}
 use native.Mathlib.Omega.{arith}
 use lib.Dec.{eqb, ltb}
@@ -19,7 +19,7 @@ use Rattle.records.specs.declared.Refusal.{Refusal}
 use Rattle.records.specs.declared.Verdict.{Verdict}
 use Rattle.records.specs.declared.Verdict.the-variants.{Accepted, Refused}
 use Rattle.stream.specs.Stream.{streamOf}
-use Rattle.token.specs.Token.{scalarOf}
+use Rattle.token.specs.Token.{scalarOf, indexOf}
 use Rattle.parse.specs.declared.Parse.{Parse}
 use Rattle.parse.specs.declared.Pushed.{Pushed}
 use Rattle.parse.specs.State.{placeOf, nothing}
@@ -29,6 +29,7 @@ use Rattle.segment.specs.declared.Segmenter.{Segmenter}
 use Rattle.segment.specs.declared.Answer.{Answer}
 use Rattle.segment.specs.Calls.{grammar, joins, called, refused, end, found, answerIn, answerUnder, nextOf}
 use Rattle.segment.specs.Runs.{callsFrom, characters}
+use Rattle.segment.specs.Repeats.{NotedIn, Appears}
 use Rattle.segment.proofs.CallLaws.{streamed}
 use Rattle.segment.proofs.Progress.{progress}
 use Rattle.segment.proofs.CallTurns.{call-within, call-room, call-length}
@@ -105,6 +106,25 @@ module _ (parser : Parser) (mode : Mode) (stream : List ℕ) (short : length str
       let later = calls-some n (placeOf stream (called parser mode stream at)) (call-within parser mode stream short at i) in
       rw e (omega (arith, later .0, call-some parser mode stream short at i), omega (arith, later .1, progress parser mode stream short at i)))
       (λ e. rw e (omega arith, omega arith))
+
+-- what characters cover appears among them: the token at k is pushed, or noted right after a character
+noted-in : (look′ : ℕ → ℕ) (n from k i : ℕ) → from ≤ k → k < from + n → indexOf (look′ k) ≡ i → NotedIn look′ from n i
+noted-in look′ zero from k i l h e = absurd (omega arith)
+noted-in look′ (suc n) from k i l h e =
+    ⊎-elim
+    (λ q. inl (ap (λ j. indexOf (look′ j)) q ∙ e))
+    (λ q. inr (noted-in look′ n (from + 1) k i (omega (arith, q)) (omega arith) e))
+    (eq-or-lt-of-le l)
+
+pub cover-appears : (look′ : ℕ → ℕ) (cs : List Pushed) (from to k i : ℕ) → Covers look′ from cs to → from ≤ k → k < to → indexOf (look′ k) ≡ i → Appears look′ from cs i
+cover-appears look′ [] from to k i c l h e = absurd (omega arith)
+cover-appears look′ (x ∷ cs) from to k i c l h e =
+    ⊎-elim
+    (λ q. inl (c .0 .1 ∙ ap (λ j. indexOf (look′ j)) q ∙ e))
+    (λ q. inr (by-test (ltb k (from + 1 + x .noted))
+    (λ z. inl (noted-in look′ (x .noted) (from + 1) k i (omega (arith, q)) (ltb-true k (from + 1 + x .noted) z) e))
+    (λ z. inr (cover-appears look′ cs (from + 1 + x .noted) to k i (c .1) (ltb-false k (from + 1 + x .noted) z) h e))))
+    (eq-or-lt-of-le l)
 
 pub cover-append : (look′ : ℕ → ℕ) (cs ds : List Pushed) (from mid to : ℕ) → Covers look′ from cs mid → Covers look′ mid ds to → Covers look′ from (cs ++ ds) to
 cover-append look′ [] ds from mid to e d = subst (λ (i : ℕ). Covers look′ i ds to) (sym e) d

@@ -1,8 +1,8 @@
 -- Texts whose records are the tokens, and regular ones: what acceptance gives, and what is looked at. Assumes nothing.
-use Prim.Native.Nat.{ℕ, zero, suc, _+_, _<_, _≤_}
+use Prim.Native.Nat.{ℕ, zero, suc, _<_, _≤_}
 use mathlib.Core.Path.{_≡_, refl, sym, _∙_, ap, subst}
 use mathlib.Core.Bool.{Bool, true, false, not, _||_}
-use mathlib.Core.List.{List, [], _∷_, _++_}
+use mathlib.Core.List.{List, [], _∷_}
 use native.Mathlib.Omega.{arith}
 use lib.Dec.{eqb, ltb}
 use lib.ListN.{length, getD, List·getD-eq-default}
@@ -18,6 +18,7 @@ use Rattle.records.specs.declared.Parser.the-variants.{Simple, Myanmar, Complex
 use Rattle.records.proofs.Passing.{not-so}
 use Rattle.stream.specs.Stream.{Source, Splits, sourceOf, splitsOf, itself, split, gather, streamOf}
 use Rattle.stream.proofs.Accepted.{small, own-says}
+use Rattle.stream.proofs.Stream.{same-gather}
 use Rattle.parse.specs.State.{tokenAt}
 use Rattle.tables.specs.Symbols.{Regular, simpleRegular, myanmarRegular, useRegular}
 use Rattle.segment.specs.Seen.{seenIn, seenBy, kindsOf, emojisOf, EvenBy, Direct, useParser, Single, AllMyanmar, AllUse}
@@ -123,14 +124,9 @@ module _ (parser : Parser) (t : Text) (s : Sound parser t) where
 
 -- the stream is what is seen
 
-same-gather : (f g : ℕ → List ℕ) (n i : ℕ) → ((k : ℕ) → i ≤ k → k < i + n → f k ≡ g k) → gather f i n ≡ gather g i n
-unfolding gather
-same-gather f g zero i h = refl
-same-gather f g (suc n) i h = ap (λ l. l ++ gather f (i + 1) n) (h i (omega arith) (omega arith)) ∙ ap (λ l. g i ++ l) (same-gather f g n (i + 1) (λ k a b. h k (omega arith) (omega arith)))
-
-split-single : (khmer : Bool) (s : Source) (d : Splits) (p : Parts) (i k e : ℕ) → Single khmer (cell (s .scalars) i) k e (cell (d .decomposes) i) → split khmer s d p i ≡ itself s i
+split-single : (mode : Mode) (khmer : Bool) (s : Source) (d : Splits) (p : Parts) (i k e : ℕ) → Single khmer (cell (s .scalars) i) k e (cell (d .decomposes) i) → split mode khmer s d p i ≡ itself s i
 unfolding split
-split-single khmer s d p i k e w = rw (w .marked, w .sign) refl
+split-single mode khmer s d p i k e w = rw (w .marked, w .sign) refl
 
 module _ (mode : Mode) (t : Text) where
   stream-simple : streamOf mode Simple t ≡ seenBy Simple t
@@ -141,9 +137,9 @@ module _ (mode : Mode) (t : Text) where
   unfolding streamOf seenIn
   stream-myanmar = refl
 
-  gathered-use : (khmer : Bool) → AllUse khmer (t .records .scalars) (t .records .uses) (t .records .cemojis) (t .records .decomposes) → gather (split khmer (sourceOf (t .records) (t .records .uses) (t .records .cemojis)) (splitsOf (t .records)) (t .parts)) 0 (length (t .records .scalars)) ≡ seenBy Complex t
+  gathered-use : (khmer : Bool) → AllUse khmer (t .records .scalars) (t .records .uses) (t .records .cemojis) (t .records .decomposes) → gather (split mode khmer (sourceOf (t .records) (t .records .uses) (t .records .cemojis)) (splitsOf (t .records)) (t .parts)) 0 (length (t .records .scalars)) ≡ seenBy Complex t
   unfolding seenIn
-  gathered-use khmer a = same-gather _ _ (length (t .records .scalars)) 0 (λ k l h. split-single khmer (sourceOf (t .records) (t .records .uses) (t .records .cemojis)) (splitsOf (t .records)) (t .parts) k (cell (t .records .uses) k) (cell (t .records .cemojis) k) (a k (omega arith)))
+  gathered-use khmer a = same-gather _ _ (length (t .records .scalars)) 0 (λ k l h. split-single mode khmer (sourceOf (t .records) (t .records .uses) (t .records .cemojis)) (splitsOf (t .records)) (t .parts) k (cell (t .records .uses) k) (cell (t .records .cemojis) k) (a k (omega arith)))
 
   stream-use : (khmer : Bool) → AllUse khmer (t .records .scalars) (t .records .uses) (t .records .cemojis) (t .records .decomposes) → streamOf mode (useParser khmer) t ≡ seenBy (useParser khmer) t
   unfolding streamOf

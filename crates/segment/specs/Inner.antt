@@ -27,11 +27,11 @@ pub record Filled (stream : List ℕ) (room n : ℕ) (cells : List ℕ) : Type 0
   pub same : take n cells ≡ take n stream
 
 -- how many tokens the first 4,096 records give to a parser
-abbrev pub tokenCount : Parser → Text → ℕ
-tokenCount Simple t = length (t .records .scalars)
-tokenCount Myanmar t = length (t .records .scalars)
-tokenCount Complex t = countIn false t
-tokenCount Khmer t = countIn true t
+abbrev pub tokenCount : Mode → Parser → Text → ℕ
+tokenCount mode Simple t = length (t .records .scalars)
+tokenCount mode Myanmar t = length (t .records .scalars)
+tokenCount mode Complex t = countIn mode false t
+tokenCount mode Khmer t = countIn mode true t
 
 -- a call whose tokens fit in so many cells
 abbrev pub NextIn : Segmenter → Text → ℕ → Answer → Type 0

@@ -1,14 +1,17 @@
 -- What demand 3 says of the answers of the stepping calls, in what a caller sees: the place, the passed count and the cluster. A token
 -- is repeated "at two named places alone" (SCOPE 1.2), which are repeat (a) and repeat (b) (6.7, 6.8), and there once.
 use Prim.Native.Nat.{ℕ, zero, suc, _+_}
+use mathlib.Core.Path.{_≡_}
 use mathlib.Core.Bool.{Bool, true, false, cond}
 use mathlib.Core.List.{List, [], _∷_, _++_, map}
+use mathlib.Core.Logic.{_⊎_}
 use lib.Dec.{eqb}
 use Rattle.classes.specs.declared.Mode.{Mode}
 use Rattle.classes.specs.declared.Mode.the-variants.{Crate, Whole}
 use Rattle.records.specs.Text.{Text}
 use Rattle.records.specs.declared.Parser.{Parser}
 use Rattle.records.specs.declared.Parser.the-variants.{Simple, Myanmar, Complex, Khmer}
+use Rattle.token.specs.Token.{indexOf}
 use Rattle.parse.specs.declared.Pushed.{Pushed}
 use Rattle.parse.specs.declared.Cluster.{Cluster}
 use Rattle.parse.specs.Cover.{charactersOf, butLast}
@@ -59,6 +62,17 @@ unfoldable pub allUnrepeated : Mode → Parser → List ℕ → ℕ → List Ans
 allUnrepeated mode parser stream at [] = []
 allUnrepeated mode parser stream at (a ∷ later) =
     unrepeated mode parser stream at (a .cluster) ++ allUnrepeated mode parser stream ((a .state) .place .at) later
+
+-- "every record index appears at least once among the pushed and noted ones" (SCOPE 12.3). An answer has no list of what it noted, so a
+-- record appears where a character is its, or one of the tokens that were noted right after a character: whether one of n tokens from a
+-- place on is of record i, and whether characters that begin with the token at a place show it so.
+abbrev pub NotedIn : (ℕ → ℕ) → ℕ → ℕ → ℕ → Type 0
+NotedIn look from zero i = ⊥
+NotedIn look from (suc n) i = (indexOf (look from) ≡ i) ⊎ NotedIn look (from + 1) n i
+
+abbrev pub Appears : (ℕ → ℕ) → ℕ → List Pushed → ℕ → Type 0
+Appears look from [] i = ⊥
+Appears look from (c ∷ cs) i = (c .index ≡ i) ⊎ (NotedIn look (from + 1) (c .noted) i ⊎ Appears look (from + 1 + c .noted) cs i)
 
 -- a column of a full run, out of the answers: a value for each pushed character, by the number of its cluster
 unfoldable pub columnIn : (ℕ → Pushed → ℕ) → ℕ → List Answer → List ℕ

@@ -256,7 +256,7 @@ fn token_count<'s, 'a>(
     if direct {
         return record_count(wides, bytes, firsts);
     }
-    count_of(parser, wides, bytes, firsts)
+    count_of(parser, mode, wides, bytes, firsts)
 }
 
 // The clusters that the table makes of the columns themselves, where it can.

@@ -18,7 +18,7 @@ use Rattle.records.specs.Refusals.{badScalar, most}
 use Rattle.records.specs.Sound.{Sound}
 use Rattle.records.specs.declared.Parser.{Parser}
 use Rattle.records.specs.declared.Parser.the-variants.{Simple, Myanmar, Complex, Khmer}
-use Rattle.stream.specs.Stream.{Source, Splits, sourceOf, splitsOf, ownToken, partToken, split, gather, streamOf, pieceCount, countFrom, mostTokens}
+use Rattle.stream.specs.Stream.{Source, Splits, sourceOf, splitsOf, ownToken, partToken, standsAlone, split, gather, streamOf, pieceCount, countFrom, mostTokens}
 use Rattle.stream.proofs.Piece.{length-split}
 use Rattle.stream.proofs.Stream.{count-stream, length-records}
 
@@ -34,25 +34,26 @@ pub few : (parser : Parser) (t : Text) → Sound parser t → length (t .records
 few parser t s = ltb-false most (length (t .records .scalars)) (first-false (ltb most) (length (t .records .scalars)) (drop 1 (recordLengths (t .records))) (s .short))
 
 -- a record gives at most 3 tokens
-piece-most : (khmer : Bool) (decompose scalar count : ℕ) → count ≤ 3 → pieceCount khmer decompose scalar count ≤ 3
+piece-most : (mode : Mode) (khmer : Bool) (decompose scalar count : ℕ) → count ≤ 3 → pieceCount mode khmer decompose scalar count ≤ 3
 unfolding pieceCount
-piece-most khmer decompose scalar count h = go (eqb decompose 1) (khmer && member khmerSigns scalar)
+piece-most mode khmer decompose scalar count h = go (eqb decompose 1) (standsAlone mode count) (khmer && member khmerSigns scalar)
   where
-    go : (a b : Bool) → cond a count (cond b 2 1) ≤ 3
-    go true b = h
-    go false true = omega arith
-    go false false = omega arith
+    go : (a b c : Bool) → cond a (cond b 1 count) (cond c 2 1) ≤ 3
+    go true true c = omega arith
+    go true false c = h
+    go false b true = omega arith
+    go false b false = omega arith
 
-split-most : (khmer : Bool) (s : Source) (d : Splits) (p : Parts) (n i : ℕ) → ((k : ℕ) → i ≤ k → k < i + n → cell (d .counts) k ≤ 3) → length (gather (split khmer s d p) i n) ≤ 3 * n
+split-most : (mode : Mode) (khmer : Bool) (s : Source) (d : Splits) (p : Parts) (n i : ℕ) → ((k : ℕ) → i ≤ k → k < i + n → cell (d .counts) k ≤ 3) → length (gather (split mode khmer s d p) i n) ≤ 3 * n
 unfolding gather
-split-most khmer s d p zero i f = omega arith
-split-most khmer s d p (suc n) i f =
+split-most mode khmer s d p zero i f = omega arith
+split-most mode khmer s d p (suc n) i f =
     simp length-append
     (omega (
       arith,
-      length-split khmer s d p i,
-      piece-most khmer (cell (d .decomposes) i) (cell (s .scalars) i) (cell (d .counts) i) (f i (omega arith) (omega arith)),
-      split-most khmer s d p n (i + 1) (λ k l h. f k (omega arith) (omega arith)),
+      length-split mode khmer s d p i,
+      piece-most mode khmer (cell (d .decomposes) i) (cell (s .scalars) i) (cell (d .counts) i) (f i (omega arith) (omega arith)),
+      split-most mode khmer s d p n (i + 1) (λ k l h. f k (omega arith) (omega arith)),
     ))
 
 -- what the arrays of a call have room for
@@ -60,16 +61,16 @@ pub stream-room : (mode : Mode) (parser : Parser) (t : Text) → Sound parser t 
 unfolding streamOf
 stream-room mode Simple t s = omega (arith, few Simple t s, length-records (sourceOf (t .records) (t .records .breaks) (t .records .semojis)) (length (t .records .scalars)) 0)
 stream-room mode Myanmar t s = omega (arith, few Myanmar t s, length-records (sourceOf (t .records) (t .records .myanmars) (t .records .memojis)) (length (t .records .scalars)) 0)
-stream-room mode Complex t s = omega (arith, few Complex t s, split-most false (sourceOf (t .records) (t .records .uses) (t .records .cemojis)) (splitsOf (t .records)) (t .parts) (length (t .records .scalars)) 0 (λ k l h. s .rows k (omega arith) .count))
-stream-room mode Khmer t s = omega (arith, few Khmer t s, split-most true (sourceOf (t .records) (t .records .uses) (t .records .cemojis)) (splitsOf (t .records)) (t .parts) (length (t .records .scalars)) 0 (λ k l h. s .rows k (omega arith) .count))
+stream-room mode Complex t s = omega (arith, few Complex t s, split-most mode false (sourceOf (t .records) (t .records .uses) (t .records .cemojis)) (splitsOf (t .records)) (t .parts) (length (t .records .scalars)) 0 (λ k l h. s .rows k (omega arith) .count))
+stream-room mode Khmer t s = omega (arith, few Khmer t s, split-most mode true (sourceOf (t .records) (t .records .uses) (t .records .cemojis)) (splitsOf (t .records)) (t .parts) (length (t .records .scalars)) 0 (λ k l h. s .rows k (omega arith) .count))
 
 -- the count of an accepted text is the length of its stream
-pub count-accepted : (parser : Parser) (khmer : Bool) (t : Text) → Sound parser t →
-    countFrom khmer (t .records .scalars) (t .records .decomposes) (t .records .counts) 0 (min (length (t .records .scalars)) most)
-    ≡ length (gather (split khmer (sourceOf (t .records) (t .records .uses) (t .records .cemojis)) (splitsOf (t .records)) (t .parts)) 0 (length (t .records .scalars)))
-count-accepted parser khmer t s =
+pub count-accepted : (mode : Mode) (parser : Parser) (khmer : Bool) (t : Text) → Sound parser t →
+    countFrom mode khmer (t .records .scalars) (t .records .decomposes) (t .records .counts) 0 (min (length (t .records .scalars)) most)
+    ≡ length (gather (split mode khmer (sourceOf (t .records) (t .records .uses) (t .records .cemojis)) (splitsOf (t .records)) (t .parts)) 0 (length (t .records .scalars)))
+count-accepted mode parser khmer t s =
     let e : min (length (t .records .scalars)) most ≡ length (t .records .scalars) = omega (arith, few parser t s) in
-    rw e (sym (count-stream khmer (sourceOf (t .records) (t .records .uses) (t .records .cemojis)) (splitsOf (t .records)) (t .parts) (length (t .records .scalars)) 0))
+    rw e (sym (count-stream mode khmer (sourceOf (t .records) (t .records .uses) (t .records .cemojis)) (splitsOf (t .records)) (t .parts) (length (t .records .scalars)) 0))
 
 pub small : (x : ℕ) → badScalar x ≡ false → x < 0x20_0000
 unfolding badScalar

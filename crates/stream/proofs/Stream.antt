@@ -6,6 +6,7 @@ use mathlib.Core.Bool.{Bool, true, false, cond, _&&_}
 use Rattle.basics.proofs.Tests.{by-test}
 use Rattle.basics.specs.Sets.{member}
 use Rattle.classes.specs.Scalar.{khmerSigns}
+use Rattle.classes.specs.declared.Mode.{Mode}
 use mathlib.Core.List.{List, [], _∷_, _++_, append-assoc, append-nil}
 use native.Mathlib.Omega.{arith}
 use native.Mathlib.Nat.{sub-zero, le-of-eq}
@@ -14,11 +15,11 @@ use lib.Dec.{eqb, ltb}
 use lib.ListN.{length, take, drop, set, getD, length-append, length-set, drop-of-length-le}
 use lib.Seq.{take-suc-set, drop-set-lt, drop-drop, length-take-le, take-all, take-at, drop-cons}
 use borrow.Author.Tests.{lt-ltb, le-ltb, eqb-true, eqb-false}
-use Rattle.records.specs.Text.{Text, Parts, cell}
+use Rattle.records.specs.Text.{Parts, cell}
 use Rattle.records.proofs.Passing.{not-so}
-use Rattle.stream.specs.Stream.{Source, Splits, sourceOf, ownToken, itself, split, splitIn, gather, givesNone, fetchIn, pieceCount, countFrom, Fills}
-use Rattle.stream.specs.Inner.{Whole}
-use Rattle.stream.proofs.Piece.{length-split}
+use Rattle.stream.specs.Stream.{Source, Splits, ownToken, itself, standsAlone, split, gather, givesNone, fetchIn, pieceCount, countFrom, Fills}
+use Rattle.stream.specs.Inner.{givesItself}
+use Rattle.stream.proofs.Piece.{length-split, split-itself}
 
 -- the cells from j on hold what they held when they were lent
 unfoldable pub Kept : ℕ → List ℕ → List ℕ → Type 0
@@ -92,69 +93,71 @@ module _ (gives : ℕ → List ℕ) (n : ℕ) where
       rw (add-one j, take-suc-set out j token l, append-assoc) (ap (λ r. take j out ++ r) (sym (rest-here i k h m ∙ ap (λ t. t ∷ rest i (k + 1)) (sym q))) ∙ e)
 
 -- one step of the fetch: a record that is passed over, one that gives a token, the end
-module _ (n : ℕ) (decomposes counts : List ℕ) (i x y : ℕ) (b : Bool) (ex : x ≡ cell decomposes i) (ey : y ≡ cell counts i) (eb : b ≡ givesNone x y) (h : i < n) where
-  step : fetchIn (n - i) decomposes counts i ≡ cond b (fetchIn (n - (i + 1)) decomposes counts (i + 1)) i
+module _ (mode : Mode) (n : ℕ) (decomposes counts : List ℕ) (i x y : ℕ) (b : Bool) (ex : x ≡ cell decomposes i) (ey : y ≡ cell counts i) (eb : b ≡ givesNone mode x y) (h : i < n) where
+  step : fetchIn mode (n - i) decomposes counts i ≡ cond b (fetchIn mode (n - (i + 1)) decomposes counts (i + 1)) i
   unfolding fetchIn
   step = let f : n - i ≡ suc (n - (i + 1)) = omega arith in rw (f, ← ex, ← ey, ← eb)
 
-  pub fetch-next : (r : ℕ) → b ≡ true → r ≡ fetchIn (n - (i + 1)) decomposes counts (i + 1) → r ≡ fetchIn (n - i) decomposes counts i
-  fetch-next r t e = e ∙ sym (step ∙ ap (λ b. cond b (fetchIn (n - (i + 1)) decomposes counts (i + 1)) i) t)
+  pub fetch-next : (r : ℕ) → b ≡ true → r ≡ fetchIn mode (n - (i + 1)) decomposes counts (i + 1) → r ≡ fetchIn mode (n - i) decomposes counts i
+  fetch-next r t e = e ∙ sym (step ∙ ap (λ b. cond b (fetchIn mode (n - (i + 1)) decomposes counts (i + 1)) i) t)
 
-  pub fetch-here : b ≡ false → i ≡ fetchIn (n - i) decomposes counts i
-  fetch-here t = sym (step ∙ ap (λ b. cond b (fetchIn (n - (i + 1)) decomposes counts (i + 1)) i) t)
+  pub fetch-here : b ≡ false → i ≡ fetchIn mode (n - i) decomposes counts i
+  fetch-here t = sym (step ∙ ap (λ b. cond b (fetchIn mode (n - (i + 1)) decomposes counts (i + 1)) i) t)
 
-pub fetch-over : (n : ℕ) (decomposes counts : List ℕ) (i : ℕ) → n ≤ i → i ≡ fetchIn (n - i) decomposes counts i
+pub fetch-over : (mode : Mode) (n : ℕ) (decomposes counts : List ℕ) (i : ℕ) → n ≤ i → i ≡ fetchIn mode (n - i) decomposes counts i
 unfolding fetchIn
-fetch-over n decomposes counts i h = let f : n - i ≡ 0 = omega arith in rw f
+fetch-over mode n decomposes counts i h = let f : n - i ≡ 0 = omega arith in rw f
 
 -- the records that the fetch passes over leave the rest as it is, and it stops at one that gives a token
-module _ (gives : ℕ → List ℕ) (n : ℕ) (decomposes counts : List ℕ) (none : (j : ℕ) → givesNone (cell decomposes j) (cell counts j) ≡ true → length (gives j) ≤ 0) where
-  rest-from : (m i : ℕ) → n - i ≡ m → rest gives n i 0 ≡ rest gives n (fetchIn m decomposes counts i) 0
+module _ (gives : ℕ → List ℕ) (mode : Mode) (n : ℕ) (decomposes counts : List ℕ) (none : (j : ℕ) → givesNone mode (cell decomposes j) (cell counts j) ≡ true → length (gives j) ≤ 0) where
+  rest-from : (m i : ℕ) → n - i ≡ m → rest gives n i 0 ≡ rest gives n (fetchIn mode m decomposes counts i) 0
   unfolding fetchIn
   rest-from zero i e = refl
   rest-from (suc m) i e =
-      by-test (givesNone (cell decomposes i) (cell counts i))
+      by-test (givesNone mode (cell decomposes i) (cell counts i))
       (λ h. rw h (rest-next gives n i 0 (omega arith) (none i h) ∙ rest-from m (i + 1) (omega arith)))
       (λ h. rw h refl)
 
-  pub rest-fetched : (i j : ℕ) → j ≡ fetchIn (n - i) decomposes counts i → rest gives n i 0 ≡ rest gives n j 0
+  pub rest-fetched : (i j : ℕ) → j ≡ fetchIn mode (n - i) decomposes counts i → rest gives n i 0 ≡ rest gives n j 0
   rest-fetched i j e = rest-from (n - i) i refl ∙ ap (λ k. rest gives n k 0) (sym e)
 
-fetch-gives : (n : ℕ) (decomposes counts : List ℕ) (m i : ℕ) → n - i ≡ m → fetchIn m decomposes counts i < n → givesNone (cell decomposes (fetchIn m decomposes counts i)) (cell counts (fetchIn m decomposes counts i)) ≡ false
+fetch-gives : (mode : Mode) (n : ℕ) (decomposes counts : List ℕ) (m i : ℕ) → n - i ≡ m → fetchIn mode m decomposes counts i < n → givesNone mode (cell decomposes (fetchIn mode m decomposes counts i)) (cell counts (fetchIn mode m decomposes counts i)) ≡ false
 unfolding fetchIn
-fetch-gives n decomposes counts zero i e h = absurd (omega arith)
-fetch-gives n decomposes counts (suc m) i e h =
-    by-test (givesNone (cell decomposes i) (cell counts i))
-    (λ z. rw z (fetch-gives n decomposes counts m (i + 1) (omega arith) (rw z at h)))
+fetch-gives mode n decomposes counts zero i e h = absurd (omega arith)
+fetch-gives mode n decomposes counts (suc m) i e h =
+    by-test (givesNone mode (cell decomposes i) (cell counts i))
+    (λ z. rw z (fetch-gives mode n decomposes counts m (i + 1) (omega arith) (rw z at h)))
     (λ z. rw (z, z))
 
-none-counted : (khmer : Bool) (decompose scalar count : ℕ) → givesNone decompose count ≡ true → pieceCount khmer decompose scalar count ≤ 0
+pub none-counted : (mode : Mode) (khmer : Bool) (decompose scalar count : ℕ) → givesNone mode decompose count ≡ true → pieceCount mode khmer decompose scalar count ≤ 0
 unfolding pieceCount
-none-counted khmer decompose scalar count e = go (eqb decompose 1) e
+none-counted mode khmer decompose scalar count e = go (eqb decompose 1) (standsAlone mode count) e
   where
-    go : (a : Bool) → cond a (eqb count 0) false ≡ true → cond a count (cond (khmer && member khmerSigns scalar) 2 1) ≤ 0
-    go true e = le-of-eq (eqb-true count 0 e)
-    go false e = not-so e
+    go : (a b : Bool) → cond a (cond b false (eqb count 0)) false ≡ true → cond a (cond b 1 count) (cond (khmer && member khmerSigns scalar) 2 1) ≤ 0
+    go true true e = not-so e
+    go true false e = le-of-eq (eqb-true count 0 e)
+    go false b e = not-so e
 
-some-counted : (khmer : Bool) (decompose scalar count : ℕ) → givesNone decompose count ≡ false → 0 < pieceCount khmer decompose scalar count
+pub some-counted : (mode : Mode) (khmer : Bool) (decompose scalar count : ℕ) → givesNone mode decompose count ≡ false → 0 < pieceCount mode khmer decompose scalar count
 unfolding pieceCount
-some-counted khmer decompose scalar count e = go (eqb decompose 1) (khmer && member khmerSigns scalar) e
+some-counted mode khmer decompose scalar count e = go (eqb decompose 1) (standsAlone mode count) (khmer && member khmerSigns scalar) e
   where
-    go : (a b : Bool) → cond a (eqb count 0) false ≡ false → 0 < cond a count (cond b 2 1)
-    go true b e = omega (arith, eqb-false count 0 e)
-    go false true e = omega arith
-    go false false e = omega arith
+    go : (a b c : Bool) → cond a (cond b false (eqb count 0)) false ≡ false → 0 < cond a (cond b 1 count) (cond c 2 1)
+    go true true c e = omega arith
+    go true false c e = omega (arith, eqb-false count 0 e)
+    go false b true e = omega arith
+    go false b false e = omega arith
 
 -- the tokens of split records, gathered: filled of them are in the array, the next is token k of record i
-module _ (khmer : Bool) (s : Source) (d : Splits) (p : Parts) (n : ℕ) where
+module _ (mode : Mode) (khmer : Bool) (s : Source) (d : Splits) (p : Parts) (n : ℕ) where
   abbrev gives : ℕ → List ℕ
-  gives = split khmer s d p
+  gives = split mode khmer s d p
 
   abbrev pieces : ℕ → ℕ
-  pieces i = pieceCount khmer (cell (d .decomposes) i) (cell (s .scalars) i) (cell (d .counts) i)
+  pieces i = pieceCount mode khmer (cell (d .decomposes) i) (cell (s .scalars) i) (cell (d .counts) i)
 
-  none-given : (j : ℕ) → givesNone (cell (d .decomposes) j) (cell (d .counts) j) ≡ true → length (gives j) ≤ 0
-  none-given j e = omega (arith, length-split khmer s d p j, none-counted khmer (cell (d .decomposes) j) (cell (s .scalars) j) (cell (d .counts) j) e)
+  none-given : (j : ℕ) → givesNone mode (cell (d .decomposes) j) (cell (d .counts) j) ≡ true → length (gives j) ≤ 0
+  none-given j e = omega (arith, length-split mode khmer s d p j, none-counted mode khmer (cell (d .decomposes) j) (cell (s .scalars) j) (cell (d .counts) j) e)
 
   pub record Collecting (lent out : List ℕ) (filled i k : ℕ) : Type 0 where
     pub kept : Kept filled out lent
@@ -164,7 +167,7 @@ module _ (khmer : Bool) (s : Source) (d : Splits) (p : Parts) (n : ℕ) where
     pub joined : take filled out ++ rest gives n i k ≡ gather gives 0 n
 
   -- on to the next record that gives a token
-  fetched : (lent out : List ℕ) (filled i j k : ℕ) → Kept filled out lent → length out ≡ length lent → filled ≤ length out → j ≡ fetchIn (n - i) (d .decomposes) (d .counts) i → k ≡ 0
+  fetched : (lent out : List ℕ) (filled i j k : ℕ) → Kept filled out lent → length out ≡ length lent → filled ≤ length out → j ≡ fetchIn mode (n - i) (d .decomposes) (d .counts) i → k ≡ 0
       → take filled out ++ rest gives n i 0 ≡ gather gives 0 n → Collecting lent out filled j k
   fetched lent out filled i j k kept same room e z joined = record {
     kept = kept;
@@ -173,26 +176,26 @@ module _ (khmer : Bool) (s : Source) (d : Splits) (p : Parts) (n : ℕ) where
     here = λ h. omega (
       arith,
       z,
-      some-counted khmer (cell (d .decomposes) j) (cell (s .scalars) j) (cell (d .counts) j)
-          (subst (λ j. givesNone (cell (d .decomposes) j) (cell (d .counts) j) ≡ false) (sym e) (fetch-gives n (d .decomposes) (d .counts) (n - i) i refl (subst (λ j. j < n) e h))),
+      some-counted mode khmer (cell (d .decomposes) j) (cell (s .scalars) j) (cell (d .counts) j)
+          (subst (λ j. givesNone mode (cell (d .decomposes) j) (cell (d .counts) j) ≡ false) (sym e) (fetch-gives mode n (d .decomposes) (d .counts) (n - i) i refl (subst (λ j. j < n) e h))),
     );
-    joined = ap (λ r. take filled out ++ r) (ap (rest gives n j) z ∙ sym (rest-fetched gives n (d .decomposes) (d .counts) none-given i j e)) ∙ joined;
+    joined = ap (λ r. take filled out ++ r) (ap (rest gives n j) z ∙ sym (rest-fetched gives mode n (d .decomposes) (d .counts) none-given i j e)) ∙ joined;
   }
 
-  pub collect-starts : (lent : List ℕ) (i : ℕ) → i ≡ fetchIn (n - 0) (d .decomposes) (d .counts) 0 → Collecting lent lent 0 i 0
+  pub collect-starts : (lent : List ℕ) (i : ℕ) → i ≡ fetchIn mode (n - 0) (d .decomposes) (d .counts) 0 → Collecting lent lent 0 i 0
   collect-starts lent i e = fetched lent lent 0 0 i 0 (kept-all lent) refl (omega arith) e refl (sym (rest-all gives n))
 
   module _ (lent out : List ℕ) (filled i k token : ℕ) (c : Collecting lent out filled i k) (h : i < n) (l : filled < length out) where
     -- a record that is one token
-    pub collect-whole : (j : ℕ) → gives i ≡ token ∷ [] → j ≡ fetchIn (n - (i + 1)) (d .decomposes) (d .counts) (i + 1) → Collecting lent (set out filled token) (filled + 1) j k
+    pub collect-whole : (j : ℕ) → gives i ≡ token ∷ [] → j ≡ fetchIn mode (n - (i + 1)) (d .decomposes) (d .counts) (i + 1) → Collecting lent (set out filled token) (filled + 1) j k
     collect-whole j q e =
-        let z : k ≡ 0 = omega (arith, c .here h, length-split khmer s d p i, ap length q) in
+        let z : k ≡ 0 = omega (arith, c .here h, length-split mode khmer s d p i, ap length q) in
         fetched lent (set out filled token) (filled + 1) (i + 1) j k (kept-more out lent filled token (c .kept)) (length-set out filled token ∙ c .same) (simp length-set (omega arith)) e z
         (whole-more gives n out i k filled token (c .joined) h l z q)
 
     module _ (q : k < length (gives i) → token ≡ getD (gives i) k 0) (r : ℕ) (er : r ≡ pieces i) where
       inside : k < length (gives i)
-      inside = omega (arith, c .here h, length-split khmer s d p i)
+      inside = omega (arith, c .here h, length-split mode khmer s d p i)
 
       one-more : take (filled + 1) (set out filled token) ++ rest gives n i (k + 1) ≡ gather gives 0 n
       one-more = part-more gives n out i k filled token (c .joined) h l inside (q inside)
@@ -208,9 +211,9 @@ module _ (khmer : Bool) (s : Source) (d : Splits) (p : Parts) (n : ℕ) where
       }
 
       -- its last
-      pub collect-last : (j : ℕ) → r ≤ k + 1 → j ≡ fetchIn (n - (i + 1)) (d .decomposes) (d .counts) (i + 1) → Collecting lent (set out filled token) (filled + 1) j 0
+      pub collect-last : (j : ℕ) → r ≤ k + 1 → j ≡ fetchIn mode (n - (i + 1)) (d .decomposes) (d .counts) (i + 1) → Collecting lent (set out filled token) (filled + 1) j 0
       collect-last j m e = fetched lent (set out filled token) (filled + 1) (i + 1) j 0 (kept-more out lent filled token (c .kept)) (length-set out filled token ∙ c .same) (simp length-set (omega arith)) e refl
-          (ap (λ x. take (filled + 1) (set out filled token) ++ x) (sym (rest-next gives n i (k + 1) h (omega (arith, length-split khmer s d p i)))) ∙ one-more)
+          (ap (λ x. take (filled + 1) (set out filled token) ++ x) (sym (rest-next gives n i (k + 1) h (omega (arith, length-split mode khmer s d p i)))) ∙ one-more)
 
   module _ (lent out : List ℕ) (filled i k : ℕ) (c : Collecting lent out filled i k) where
     pub collect-full : length out ≤ filled → Fills (gather gives 0 n) filled lent out
@@ -219,13 +222,11 @@ module _ (khmer : Bool) (s : Source) (d : Splits) (p : Parts) (n : ℕ) where
     pub collect-over : n ≤ i → Fills (gather gives 0 n) filled lent out
     collect-over h = (all-gathered (gather gives 0 n) (rest gives n i k) out filled (length lent) (c .same) (c .joined) (c .room) (rest-over gives n i k h), kept-is out lent filled (c .kept))
 
--- a record that is not split gives itself
-pub split-whole : (khmer : Bool) (t : Text) (i token emoji : ℕ) → Whole khmer t i → emoji ≡ cell (t .records .cemojis) i → token ≡ ownToken (sourceOf (t .records) (t .records .uses) []) emoji i → splitIn khmer t i ≡ token ∷ []
-unfolding split itself
-split-whole khmer t i token emoji w e q = rw (w .marked, w .sign) (ap (λ x. x ∷ []) (sym (q ∙ ap (λ m. ownToken (sourceOf (t .records) (t .records .uses) []) m i) e)))
-
-pub no-sign : (khmer : Bool) (x y : ℕ) (r : Bool) → x ≡ y → r ≡ (khmer && member khmerSigns x) → r ≡ false → (khmer && member khmerSigns y) ≡ false
-no-sign khmer x y r e f g = ap (λ z. khmer && member khmerSigns z) (sym e) ∙ sym f ∙ g
+-- a record that gives itself alone
+pub split-whole : (mode : Mode) (khmer : Bool) (s : Source) (d : Splits) (p : Parts) (i token emoji : ℕ) (g : Bool) → g ≡ givesItself mode khmer (cell (d .decomposes) i) (cell (s .scalars) i) (cell (d .counts) i) → g ≡ true → emoji ≡ cell (s .emojis) i → token ≡ ownToken s emoji i → split mode khmer s d p i ≡ token ∷ []
+unfolding itself
+split-whole mode khmer s d p i token emoji g eg h e q =
+    split-itself mode khmer s d p i g eg h ∙ ap (λ x. x ∷ []) (sym (q ∙ ap (λ m. ownToken s m i) e))
 
 -- the same where each record is one token
 pub fill-more : (s : Source) (n : ℕ) (out : List ℕ) (i token : ℕ) → take i out ++ rest (itself s) n i 0 ≡ gather (itself s) 0 n → i < n → i < length out → token ≡ ownToken s (cell (s .emojis) i) i → take (i + 1) (set out i token) ++ rest (itself s) n (i + 1) 0 ≡ gather (itself s) 0 n
@@ -246,25 +247,31 @@ module _ (s : Source) (n : ℕ) (out : List ℕ) (i room : ℕ) (q : length out 
   pub fill-over : n ≤ i → (i ≡ min (length (gather (itself s) 0 n)) room) × (take i out ≡ take i (gather (itself s) 0 n))
   fill-over h = all-gathered (gather (itself s) 0 n) (rest (itself s) n i 0) out i room q e l (rest-over (itself s) n i 0 h)
 
+-- records that give the same, gathered
+pub same-gather : (f g : ℕ → List ℕ) (n i : ℕ) → ((k : ℕ) → i ≤ k → k < i + n → f k ≡ g k) → gather f i n ≡ gather g i n
+unfolding gather
+same-gather f g zero i h = refl
+same-gather f g (suc n) i h = ap (λ l. l ++ gather f (i + 1) n) (h i (omega arith) (omega arith)) ∙ ap (λ l. g i ++ l) (same-gather f g n (i + 1) (λ k a b. h k (omega arith) (omega arith)))
+
 -- the sum of what the records give is the stream's length
-pub count-stream : (khmer : Bool) (s : Source) (d : Splits) (p : Parts) (n i : ℕ) → length (gather (split khmer s d p) i n) ≡ countFrom khmer (s .scalars) (d .decomposes) (d .counts) i n
+pub count-stream : (mode : Mode) (khmer : Bool) (s : Source) (d : Splits) (p : Parts) (n i : ℕ) → length (gather (split mode khmer s d p) i n) ≡ countFrom mode khmer (s .scalars) (d .decomposes) (d .counts) i n
 unfolding gather countFrom
-count-stream khmer s d p zero i = refl
-count-stream khmer s d p (suc n) i =
-    simp (length-append, length-split khmer s d p i, count-stream khmer s d p n (i + 1))
+count-stream mode khmer s d p zero i = refl
+count-stream mode khmer s d p (suc n) i =
+    simp (length-append, length-split mode khmer s d p i, count-stream mode khmer s d p n (i + 1))
 
 -- the sum so far, and what is left to count
-module _ (khmer : Bool) (scalars decomposes counts : List ℕ) (n i sum c : ℕ) where
-  pub count-more : sum + countFrom khmer scalars decomposes counts i (n - i) ≡ countFrom khmer scalars decomposes counts 0 n → i < n → c ≡ pieceCount khmer (cell decomposes i) (cell scalars i) (cell counts i) → (sum + c) + countFrom khmer scalars decomposes counts (i + 1) (n - (i + 1)) ≡ countFrom khmer scalars decomposes counts 0 n
+module _ (mode : Mode) (khmer : Bool) (scalars decomposes counts : List ℕ) (n i sum c : ℕ) where
+  pub count-more : sum + countFrom mode khmer scalars decomposes counts i (n - i) ≡ countFrom mode khmer scalars decomposes counts 0 n → i < n → c ≡ pieceCount mode khmer (cell decomposes i) (cell scalars i) (cell counts i) → (sum + c) + countFrom mode khmer scalars decomposes counts (i + 1) (n - (i + 1)) ≡ countFrom mode khmer scalars decomposes counts 0 n
   unfolding countFrom
   count-more e h q =
       let f : n - i ≡ suc (n - (i + 1)) = omega arith in
-      let g : sum + (pieceCount khmer (cell decomposes i) (cell scalars i) (cell counts i) + countFrom khmer scalars decomposes counts (i + 1) (n - (i + 1))) ≡ countFrom khmer scalars decomposes counts 0 n = rw f at e in
+      let g : sum + (pieceCount mode khmer (cell decomposes i) (cell scalars i) (cell counts i) + countFrom mode khmer scalars decomposes counts (i + 1) (n - (i + 1))) ≡ countFrom mode khmer scalars decomposes counts 0 n = rw f at e in
       omega arith
 
-pub count-all : (khmer : Bool) (scalars decomposes counts : List ℕ) (n i sum : ℕ) → sum + countFrom khmer scalars decomposes counts i (n - i) ≡ countFrom khmer scalars decomposes counts 0 n → n ≤ i → sum ≡ countFrom khmer scalars decomposes counts 0 n
+pub count-all : (mode : Mode) (khmer : Bool) (scalars decomposes counts : List ℕ) (n i sum : ℕ) → sum + countFrom mode khmer scalars decomposes counts i (n - i) ≡ countFrom mode khmer scalars decomposes counts 0 n → n ≤ i → sum ≡ countFrom mode khmer scalars decomposes counts 0 n
 unfolding countFrom
-count-all khmer scalars decomposes counts n i sum e h =
+count-all mode khmer scalars decomposes counts n i sum e h =
     let f : n - i ≡ 0 = omega arith in
-    let g : sum + 0 ≡ countFrom khmer scalars decomposes counts 0 n = rw f at e in
+    let g : sum + 0 ≡ countFrom mode khmer scalars decomposes counts 0 n = rw f at e in
     omega arith

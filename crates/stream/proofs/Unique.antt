@@ -5,6 +5,7 @@ use mathlib.Core.Path.{_≡_, sym, _∙_}
 use mathlib.Core.Bool.{Bool}
 use mathlib.Core.List.{List, _++_}
 use lib.ListN.{length, take, drop, take-append-drop}
+use Rattle.classes.specs.declared.Mode.{Mode}
 use Rattle.records.specs.Text.{Text}
 use Rattle.records.proofs.Unique.{unique}
 use Rattle.stream.specs.Stream.{recordTokens, splitTokens, Fills, fetchIn, countIn}
@@ -25,11 +26,11 @@ fills-unique stream lent n m a b f g = (
 pub fill-unique : (t : Text) (kinds emojis out : List ℕ) (n m : ℕ) (a b : List ℕ) → Fills (recordTokens t kinds emojis) n out a → Fills (recordTokens t kinds emojis) m out b → (n ≡ m) × (a ≡ b)
 fill-unique t kinds emojis = fills-unique (recordTokens t kinds emojis)
 
-pub collect-unique : (khmer : Bool) (t : Text) (out : List ℕ) (n m : ℕ) (a b : List ℕ) → Fills (splitTokens khmer t) n out a → Fills (splitTokens khmer t) m out b → (n ≡ m) × (a ≡ b)
-collect-unique khmer t = fills-unique (splitTokens khmer t)
+pub collect-unique : (mode : Mode) (khmer : Bool) (t : Text) (out : List ℕ) (n m : ℕ) (a b : List ℕ) → Fills (splitTokens mode khmer t) n out a → Fills (splitTokens mode khmer t) m out b → (n ≡ m) × (a ≡ b)
+collect-unique mode khmer t = fills-unique (splitTokens mode khmer t)
 
-pub fetch-unique : (n : ℕ) (decomposes counts : List ℕ) (i a b : ℕ) → a ≡ fetchIn (n - i) decomposes counts i → b ≡ fetchIn (n - i) decomposes counts i → a ≡ b
-fetch-unique n decomposes counts i = unique (fetchIn (n - i) decomposes counts i)
+pub fetch-unique : (mode : Mode) (n : ℕ) (decomposes counts : List ℕ) (i a b : ℕ) → a ≡ fetchIn mode (n - i) decomposes counts i → b ≡ fetchIn mode (n - i) decomposes counts i → a ≡ b
+fetch-unique mode n decomposes counts i = unique (fetchIn mode (n - i) decomposes counts i)
 
-pub count-unique : (khmer : Bool) (t : Text) (a b : ℕ) → a ≡ countIn khmer t → b ≡ countIn khmer t → a ≡ b
-count-unique khmer t = unique (countIn khmer t)
+pub count-unique : (mode : Mode) (khmer : Bool) (t : Text) (a b : ℕ) → a ≡ countIn mode khmer t → b ≡ countIn mode khmer t → a ≡ b
+count-unique mode khmer t = unique (countIn mode khmer t)

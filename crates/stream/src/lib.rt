@@ -1,9 +1,10 @@
 // The token stream: `Tokens` of src/text/cluster/complex.rs, over the lent columns. For simple and Myanmar a token is a record.
 mod pieces;
 
+use classes::Mode;
+use pieces::gives_itself;
 use pieces::gives_none;
 pub use pieces::is_split_sign;
-use pieces::is_whole;
 use pieces::own_token;
 use pieces::piece;
 use pieces::pieces_at;
@@ -43,14 +44,14 @@ pub fn fill<'s, 'a>(
     i
 }
 
-// The first of n records, from record i on, that gives a token: a marked record with count 0 gives none. It calls itself for the
-// next record, as the last thing that it does and with thin references alone, so that the compiler makes a loop of it.
-fn fetch<'s, 'a>(n: usize, bytes: &'s [&'a [u8]; 15], i: usize) -> usize
-    ensures { λ r. ⌜ r ≡ fetchIn (n - i) (column (now (bytes .entry)) 10) (column (now (bytes .entry)) 11) i ⌝ }
+// The first of n records, from record i on, that gives a token: in crate mode a marked record with count 0 gives none. It calls
+// itself for the next record, as the last thing that it does and with thin references alone, so that the compiler makes a loop of it.
+fn fetch<'s, 'a>(mode: Mode, n: usize, bytes: &'s [&'a [u8]; 15], i: usize) -> usize
+    ensures { λ r. ⌜ r ≡ fetchIn mode (n - i) (column (now (bytes .entry)) 10) (column (now (bytes .entry)) 11) i ⌝ }
 {
     if i < n {
-        if gives_none(byte(bytes, 10, i), byte(bytes, 11, i)) {
-            return fetch(n, bytes, i + 1);
+        if gives_none(mode, byte(bytes, 10, i), byte(bytes, 11, i)) {
+            return fetch(mode, n, bytes, i + 1);
         }
         return i;
     }
@@ -59,33 +60,34 @@ fn fetch<'s, 'a>(n: usize, bytes: &'s [&'a [u8]; 15], i: usize) -> usize
 
 // The tokens of the complex parser, as many as there is room for. Most records are one token, which is looked at first.
 pub fn collect<'s, 'a>(
+    mode: Mode,
     khmer: bool,
     wides: &'s [&'a [u32]; 2],
     bytes: &'s [&'a [u8]; 15],
     firsts: &'a [u16],
     out: &mut [u64],
 ) -> usize
-    ensures { λ r. ⌜ Fills (splitTokens khmer (lent (wides .entry) (bytes .entry) (firsts .entry))) r (now (out .entry)) (now (out .exit)) ⌝ }
+    ensures { λ r. ⌜ Fills (splitTokens mode khmer (lent (wides .entry) (bytes .entry) (firsts .entry))) r (now (out .entry)) (now (out .exit)) ⌝ }
 {
     let n = record_count(wides, bytes, firsts);
     let mut filled: usize = 0;
-    let mut i = fetch(n, bytes, 0);
+    let mut i = fetch(mode, n, bytes, 0);
     let mut k: usize = 0;
     while i < n {
         if out.len() <= filled {
             return filled;
         }
-        if is_whole(khmer, wides, bytes, firsts, i) {
+        if gives_itself(mode, khmer, wides, bytes, firsts, i) {
             out[filled] = own_token(wides, bytes, firsts, bytes[1], byte(bytes, 7, i), i);
             filled += 1;
-            i = fetch(n, bytes, i + 1);
+            i = fetch(mode, n, bytes, i + 1);
         } else {
-            let pieces = pieces_at(khmer, wides, bytes, firsts, i);
-            out[filled] = piece(khmer, wides, bytes, firsts, i, k);
+            let pieces = pieces_at(mode, khmer, wides, bytes, firsts, i);
+            out[filled] = piece(mode, khmer, wides, bytes, firsts, i, k);
             filled += 1;
             k += 1;
             if pieces <= k {
-                i = fetch(n, bytes, i + 1);
+                i = fetch(mode, n, bytes, i + 1);
                 k = 0;
             }
         }
@@ -95,18 +97,19 @@ pub fn collect<'s, 'a>(
 
 // How many tokens the first 4,096 records give to the complex parser: no accepted text has more.
 pub fn count<'s, 'a>(
+    mode: Mode,
     khmer: bool,
     wides: &'s [&'a [u32]; 2],
     bytes: &'s [&'a [u8]; 15],
     firsts: &'a [u16],
 ) -> usize
-    ensures { λ r. ⌜ r ≡ countIn khmer (lent (wides .entry) (bytes .entry) (firsts .entry)) ⌝ }
+    ensures { λ r. ⌜ r ≡ countIn mode khmer (lent (wides .entry) (bytes .entry) (firsts .entry)) ⌝ }
 {
     let n = at_most(record_count(wides, bytes, firsts), MOST);
     let mut sum: usize = 0;
     let mut i: usize = 0;
     while i < n {
-        sum += pieces_at(khmer, wides, bytes, firsts, i);
+        sum += pieces_at(mode, khmer, wides, bytes, firsts, i);
         i += 1;
     }
     sum

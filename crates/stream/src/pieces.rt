@@ -1,18 +1,19 @@
 // The tokens of one record.
+use classes::Mode;
 use records::cells::byte;
 use records::cells::cell8;
 use records::cells::cell16;
 use records::cells::wide;
 use records::is_sign;
 ghost use mathlib.Core.Path.{_≡_};
-ghost use mathlib.Core.Bool.{true, _&&_};
+ghost use mathlib.Core.Bool.{_&&_};
 ghost use mathlib.Core.List.{[]};
 ghost use Prim.Native.Nat.{_<_};
 ghost use Rattle.basics.specs.Sets.{member};
 ghost use Rattle.classes.specs.Scalar.{khmerSigns};
 ghost use Rattle.records.specs.Text.{lent};
-ghost use Rattle.stream.specs.Stream.{sourceOf, ownToken, partToken, pieceCount, givesNone};
-ghost use Rattle.stream.specs.Inner.{piecesIn, Whole, Piece};
+ghost use Rattle.stream.specs.Stream.{sourceOf, ownToken, partToken, standsAlone, pieceCount, givesNone};
+ghost use Rattle.stream.specs.Inner.{piecesIn, itselfIn, Piece};
 
 // Whether a scalar is one of the five signs that Khmer splits.
 pub fn is_split_sign(khmer: bool, x: u32) -> bool
@@ -24,11 +25,24 @@ pub fn is_split_sign(khmer: bool, x: u32) -> bool
     false
 }
 
+// Whether a marked record of so many parts stands for itself: where the modes differ.
+fn stands_alone(mode: Mode, count: u8) -> bool
+    ensures { λ r. ⌜ r ≡ standsAlone mode count ⌝ }
+{
+    match mode {
+        Mode::Crate => false,
+        Mode::Whole => count == 0,
+    }
+}
+
 // How many tokens a record gives to the complex parser, by its cells.
-fn piece_count(khmer: bool, decompose: u8, x: u32, count: u8) -> usize
-    ensures { λ r. ⌜ (r ≡ pieceCount khmer decompose x count) × (r < 256) ⌝ }
+fn piece_count(mode: Mode, khmer: bool, decompose: u8, x: u32, count: u8) -> usize
+    ensures { λ r. ⌜ (r ≡ pieceCount mode khmer decompose x count) × (r < 256) ⌝ }
 {
     if decompose == 1 {
+        if stands_alone(mode, count) {
+            return 1;
+        }
         return count as usize;
     }
     if is_split_sign(khmer, x) {
@@ -39,15 +53,17 @@ fn piece_count(khmer: bool, decompose: u8, x: u32, count: u8) -> usize
 
 // The same by record i's place in the columns.
 pub(crate) fn pieces_at<'s, 'a>(
+    mode: Mode,
     khmer: bool,
     wides: &'s [&'a [u32]; 2],
     bytes: &'s [&'a [u8]; 15],
     firsts: &'a [u16],
     i: usize,
 ) -> usize
-    ensures { λ r. ⌜ (r ≡ piecesIn khmer (lent (wides .entry) (bytes .entry) (firsts .entry)) i) × (r < 256) ⌝ }
+    ensures { λ r. ⌜ (r ≡ piecesIn mode khmer (lent (wides .entry) (bytes .entry) (firsts .entry)) i) × (r < 256) ⌝ }
 {
     piece_count(
+        mode,
         khmer,
         byte(bytes, 10, i),
         wide(wides, 0, i),
@@ -56,17 +72,18 @@ pub(crate) fn pieces_at<'s, 'a>(
 }
 
 // Whether record i gives one token, itself.
-pub(crate) fn is_whole<'s, 'a>(
+pub(crate) fn gives_itself<'s, 'a>(
+    mode: Mode,
     khmer: bool,
     wides: &'s [&'a [u32]; 2],
     bytes: &'s [&'a [u8]; 15],
     firsts: &'a [u16],
     i: usize,
 ) -> bool
-    ensures { λ r. ⌜ (r ≡ true → Whole khmer (lent (wides .entry) (bytes .entry) (firsts .entry)) i) ⌝ }
+    ensures { λ r. ⌜ r ≡ itselfIn mode khmer (lent (wides .entry) (bytes .entry) (firsts .entry)) i ⌝ }
 {
     if byte(bytes, 10, i) == 1 {
-        return false;
+        return stands_alone(mode, byte(bytes, 11, i));
     }
     if is_split_sign(khmer, wide(wides, 0, i)) {
         return false;
@@ -75,10 +92,13 @@ pub(crate) fn is_whole<'s, 'a>(
 }
 
 // Whether a record gives no token, by its cells.
-pub(crate) fn gives_none(decompose: u8, count: u8) -> bool
-    ensures { λ r. ⌜ r ≡ givesNone decompose count ⌝ }
+pub(crate) fn gives_none(mode: Mode, decompose: u8, count: u8) -> bool
+    ensures { λ r. ⌜ r ≡ givesNone mode decompose count ⌝ }
 {
     if decompose == 1 {
+        if stands_alone(mode, count) {
+            return false;
+        }
         return count == 0;
     }
     false
@@ -129,6 +149,7 @@ fn part_token<'s, 'a>(
 
 // Token k of those that record i gives to the complex parser.
 pub(crate) fn piece<'s, 'a>(
+    mode: Mode,
     khmer: bool,
     wides: &'s [&'a [u32]; 2],
     bytes: &'s [&'a [u8]; 15],
@@ -137,17 +158,17 @@ pub(crate) fn piece<'s, 'a>(
     k: usize,
 ) -> u64
     requires { ⌜ k < 256 ⌝ }
-    ensures { λ r. ⌜ Piece khmer (lent (wides .entry) (bytes .entry) (firsts .entry)) i k r ⌝ }
+    ensures { λ r. ⌜ Piece mode khmer (lent (wides .entry) (bytes .entry) (firsts .entry)) i k r ⌝ }
 {
+    if gives_itself(mode, khmer, wides, bytes, firsts, i) {
+        return own_token(wides, bytes, firsts, bytes[1], byte(bytes, 7, i), i);
+    }
     let first = cell16(firsts, i) as usize;
     if byte(bytes, 10, i) == 1 {
         return part_token(wides, bytes, firsts, first + k, i);
     }
-    if is_split_sign(khmer, wide(wides, 0, i)) {
-        if k == 0 {
-            return part_token(wides, bytes, firsts, first, i);
-        }
-        return own_token(wides, bytes, firsts, bytes[1], 0, i);
+    if k == 0 {
+        return part_token(wides, bytes, firsts, first, i);
     }
-    own_token(wides, bytes, firsts, bytes[1], byte(bytes, 7, i), i)
+    own_token(wides, bytes, firsts, bytes[1], 0, i)
 }

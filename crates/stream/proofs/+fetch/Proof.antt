@@ -12,7 +12,7 @@ use Rattle.stream.proofs.+fetch.{statement}
 use Rattle.stream.proofs.+fetch.Tie.{close}
 
 abbrev μ-fetch : Measures 2 fetch-kinds.ps ℕ
-μ-fetch κs a = a .0 - a .1 .1 .0
+μ-fetch κs a = a .1 .0 - a .1 .1 .1 .0
 
 abbrev fetch-at : ℕ → In 2 fetch-kinds.ps
 fetch-at t = and 2 fetch-kinds.ps (is 2 fetch-kinds.ps μ-fetch t) fetch.Pre
@@ -78,7 +78,7 @@ fetch-returns : (t : ℕ) → fetch-lts.Need-returns (
   fetch-below t,
   fetch.Post,
 ) (fetch-at t) fetch.Post
-fetch-returns t c = fetch-next _ _ _ _ _ _ _ (c .before .before .before .before .byte .ensures) (c .before .before .before .byte2 .ensures) (c .before .before .gives-none .ensures) (c .before .before .before .before .before .if1 .taken) _ (c .before .if2 .taken) (c .fetch .ensures)
+fetch-returns t c = fetch-next _ _ _ _ _ _ _ _ (c .before .before .before .before .byte .ensures) (c .before .before .before .byte2 .ensures) (c .before .before .gives-none .ensures) (c .before .before .before .before .before .if1 .taken) _ (c .before .if2 .taken) (c .fetch .ensures)
 
 fetch-returns-2 : (t : ℕ) → fetch-lts.Need-returns-2 (
   byte-reads.Asked,
@@ -88,7 +88,7 @@ fetch-returns-2 : (t : ℕ) → fetch-lts.Need-returns-2 (
   fetch-below t,
   fetch.Post,
 ) (fetch-at t) fetch.Post
-fetch-returns-2 t c = fetch-here _ _ _ _ _ _ _ (c .before .before .before .byte .ensures) (c .before .before .byte2 .ensures) (c .before .gives-none .ensures) (c .before .before .before .before .if1 .taken) (c .if2 .left)
+fetch-returns-2 t c = fetch-here _ _ _ _ _ _ _ _ (c .before .before .before .byte .ensures) (c .before .before .byte2 .ensures) (c .before .gives-none .ensures) (c .before .before .before .before .if1 .taken) (c .if2 .left)
 
 fetch-returns-3 : (t : ℕ) → fetch-lts.Need-returns-3 (
   byte-reads.Asked,
@@ -98,7 +98,7 @@ fetch-returns-3 : (t : ℕ) → fetch-lts.Need-returns-3 (
   fetch-below t,
   fetch.Post,
 ) (fetch-at t) fetch.Post
-fetch-returns-3 t c = fetch-over _ _ _ _ (c .if1 .left)
+fetch-returns-3 t c = fetch-over _ _ _ _ _ (c .if1 .left)
 
 pub +fetch-spec : {M : Type 1} → statement M
 +fetch-spec = close μ-fetch λ t. fetch-lts.spec (

@@ -9,10 +9,10 @@ use Rattle.stream.proofs.collect.Statement.{statement}
 use Rattle.stream.proofs.collect.Tie as tie
 
 abbrev Inv-loop : tie.InvT-loop
-Inv-loop khmer wides bytes firsts out₀ n filled₀ i₀ k₀ out filled i k = Collecting khmer (sourceOf (textIn wides bytes firsts .records) (textIn wides bytes firsts .records .uses) (textIn wides bytes firsts .records .cemojis)) (splitsOf (textIn wides bytes firsts .records)) (textIn wides bytes firsts .parts) n out₀ out filled i k
+Inv-loop mode khmer wides bytes firsts out₀ n filled₀ i₀ k₀ out filled i k = Collecting mode khmer (sourceOf (textIn wides bytes firsts .records) (textIn wides bytes firsts .records .uses) (textIn wides bytes firsts .records .cemojis)) (splitsOf (textIn wides bytes firsts .records)) (textIn wides bytes firsts .parts) n out₀ out filled i k
 
 abbrev μ-loop : tie.MeasureT-loop
-μ-loop khmer wides bytes firsts out₀ n filled₀ i₀ k₀ out filled i k = length out₀ - filled
+μ-loop mode khmer wides bytes firsts out₀ n filled₀ i₀ k₀ out filled i k = length out₀ - filled
 
 record-count-requires : tie.Need-record-count-requires Inv-loop μ-loop
 record-count-requires c κs = search needs
@@ -22,17 +22,17 @@ fetch-requires c κs = search needs
 
 loop-holds : tie.Need-loop-holds Inv-loop μ-loop
 unfolding textIn
-loop-holds c = collect-starts _ _ _ _ _ _ _ (c .fetch .ensures)
+loop-holds c = collect-starts _ _ _ _ _ _ _ _ (c .fetch .ensures)
 
 same-length : tie.Need-same-length Inv-loop μ-loop
 same-length c = search needs
 
 returns : tie.Need-returns Inv-loop μ-loop
 unfolding textIn
-returns c = rw (← (c .before .before .before .before .record-count .ensures .0)) (collect-full _ _ _ _ _ _ _ _ _ _ (c .before .before .loop .inv) (c .if1 .taken))
+returns c = rw (← (c .before .before .before .before .record-count .ensures .0)) (collect-full _ _ _ _ _ _ _ _ _ _ _ (c .before .before .loop .inv) (c .if1 .taken))
 
-is-whole-requires : tie.Need-is-whole-requires Inv-loop μ-loop
-is-whole-requires c κs = search needs
+gives-itself-requires : tie.Need-gives-itself-requires Inv-loop μ-loop
+gives-itself-requires c κs = search needs
 
 element-copy-out-own-token : tie.Need-element-copy-out-own-token Inv-loop μ-loop
 element-copy-out-own-token c = search needs
@@ -64,7 +64,7 @@ loop-less c = omega (arith, c .before .before .before .before .before .before .i
 
 loop-again : tie.Need-loop-again Inv-loop μ-loop
 unfolding textIn
-loop-again c = collect-whole _ _ _ _ _ _ _ _ _ _ _ (c .before .before .before .before .before .before .before .before .loop .inv) (c .before .before .before .before .before .before .before .loop-test .taken) (c .before .before .before .before .before .before .if1 .left) _ (split-whole _ _ _ _ _ (c .before .before .before .before .before .is-whole .ensures (c .before .before .before .before .if2 .taken)) (c .before .before .byte .ensures) (c .before .own-token .ensures)) (c .fetch2 .ensures)
+loop-again c = collect-whole _ _ _ _ _ _ _ _ _ _ _ _ (c .before .before .before .before .before .before .before .before .loop .inv) (c .before .before .before .before .before .before .before .loop-test .taken) (c .before .before .before .before .before .before .if1 .left) _ (split-whole _ _ _ _ _ _ _ _ _ (c .before .before .before .before .before .gives-itself .ensures) (c .before .before .before .before .if2 .taken) (c .before .before .byte .ensures) (c .before .own-token .ensures)) (c .fetch2 .ensures)
 
 pieces-at-requires : tie.Need-pieces-at-requires Inv-loop μ-loop
 pieces-at-requires c κs = search needs
@@ -98,7 +98,7 @@ loop-less-2 c = omega (arith, c .before .before .before .before .before .before 
 
 loop-again-2 : tie.Need-loop-again-2 Inv-loop μ-loop
 unfolding textIn
-loop-again-2 c = collect-last _ _ _ _ _ _ _ _ _ _ _ (c .before .before .before .before .before .before .before .before .loop .inv) (c .before .before .before .before .before .before .before .loop-test .taken) (c .before .before .before .before .before .before .if1 .left) (c .before .before .piece .ensures) _ (c .before .before .before .pieces-at .ensures .0) _ (c .before .if3 .taken) (c .fetch3 .ensures)
+loop-again-2 c = collect-last _ _ _ _ _ _ _ _ _ _ _ _ (c .before .before .before .before .before .before .before .before .loop .inv) (c .before .before .before .before .before .before .before .loop-test .taken) (c .before .before .before .before .before .before .if1 .left) (c .before .before .piece .ensures) _ (c .before .before .before .pieces-at .ensures .0) _ (c .before .if3 .taken) (c .fetch3 .ensures)
 
 loop-less-3 : tie.Need-loop-less-3 Inv-loop μ-loop
 unfolding textIn
@@ -106,14 +106,14 @@ loop-less-3 c = omega (arith, c .before .before .before .before .before .if1 .le
 
 loop-again-3 : tie.Need-loop-again-3 Inv-loop μ-loop
 unfolding textIn
-loop-again-3 c = collect-part _ _ _ _ _ _ _ _ _ _ _ (c .before .before .before .before .before .before .before .loop .inv) (c .before .before .before .before .before .before .loop-test .taken) (c .before .before .before .before .before .if1 .left) (c .before .piece .ensures) _ (c .before .before .pieces-at .ensures .0) (λ z. omega (arith, z, c .if3 .left))
+loop-again-3 c = collect-part _ _ _ _ _ _ _ _ _ _ _ _ (c .before .before .before .before .before .before .before .loop .inv) (c .before .before .before .before .before .before .loop-test .taken) (c .before .before .before .before .before .if1 .left) (c .before .piece .ensures) _ (c .before .before .pieces-at .ensures .0) (λ z. omega (arith, z, c .if3 .left))
 
 same-length-2 : tie.Need-same-length-2 Inv-loop μ-loop
 same-length-2 c = search needs
 
 returns-2 : tie.Need-returns-2 Inv-loop μ-loop
 unfolding textIn
-returns-2 c = rw (← (c .before .before .before .record-count .ensures .0)) (collect-over _ _ _ _ _ _ _ _ _ _ (c .before .loop .inv) (c .loop-test .left))
+returns-2 c = rw (← (c .before .before .before .record-count .ensures .0)) (collect-over _ _ _ _ _ _ _ _ _ _ _ (c .before .loop .inv) (c .loop-test .left))
 
 pub collect-spec : {M : Type 1} → statement M
 collect-spec =
@@ -126,7 +126,7 @@ collect-spec =
     loop-holds
     same-length
     returns
-    is-whole-requires
+    gives-itself-requires
     element-copy-out-own-token
     byte-requires
     own-token-requires

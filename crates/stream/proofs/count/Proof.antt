@@ -11,10 +11,10 @@ use Rattle.stream.proofs.count.Statement.{statement}
 use Rattle.stream.proofs.count.Tie as tie
 
 abbrev Inv-loop : tie.InvT-loop
-Inv-loop khmer wides bytes firsts n sum₀ i₀ sum i = (n ≤ 4096) × ((i ≤ n) × ((sum ≤ 256 * i) × (sum + countFrom khmer (textIn wides bytes firsts .records .scalars) (textIn wides bytes firsts .records .decomposes) (textIn wides bytes firsts .records .counts) i (n - i) ≡ countFrom khmer (textIn wides bytes firsts .records .scalars) (textIn wides bytes firsts .records .decomposes) (textIn wides bytes firsts .records .counts) 0 n)))
+Inv-loop mode khmer wides bytes firsts n sum₀ i₀ sum i = (n ≤ 4096) × ((i ≤ n) × ((sum ≤ 256 * i) × (sum + countFrom mode khmer (textIn wides bytes firsts .records .scalars) (textIn wides bytes firsts .records .decomposes) (textIn wides bytes firsts .records .counts) i (n - i) ≡ countFrom mode khmer (textIn wides bytes firsts .records .scalars) (textIn wides bytes firsts .records .decomposes) (textIn wides bytes firsts .records .counts) 0 n)))
 
 abbrev μ-loop : tie.MeasureT-loop
-μ-loop khmer wides bytes firsts n sum₀ i₀ sum i = n - i
+μ-loop mode khmer wides bytes firsts n sum₀ i₀ sum i = n - i
 
 record-count-requires : tie.Need-record-count-requires Inv-loop μ-loop
 record-count-requires c κs = search needs
@@ -38,10 +38,10 @@ loop-less : tie.Need-loop-less Inv-loop μ-loop
 loop-less c = search needs
 
 loop-again : tie.Need-loop-again Inv-loop μ-loop
-loop-again c = (omega arith, (omega arith, (omega (arith, c .pieces-at .ensures .1), count-more _ _ _ _ _ _ _ _ (c .before .before .loop .inv .1 .1 .1) (c .before .loop-test .taken) (c .pieces-at .ensures .0))))
+loop-again c = (omega arith, (omega arith, (omega (arith, c .pieces-at .ensures .1), count-more _ _ _ _ _ _ _ _ _ (c .before .before .loop .inv .1 .1 .1) (c .before .loop-test .taken) (c .pieces-at .ensures .0))))
 
 returns : tie.Need-returns Inv-loop μ-loop
-returns c = count-all _ _ _ _ _ _ _ (c .before .loop .inv .1 .1 .1) (c .loop-test .left) ∙ ap (countFrom _ _ _ _ 0) (c .before .before .at-most .ensures ∙ ap (λ m. min m most) (c .before .before .before .record-count .ensures .0))
+returns c = count-all _ _ _ _ _ _ _ _ (c .before .loop .inv .1 .1 .1) (c .loop-test .left) ∙ ap (countFrom _ _ _ _ _ 0) (c .before .before .at-most .ensures ∙ ap (λ m. min m most) (c .before .before .before .record-count .ensures .0))
 
 pub count-spec : {M : Type 1} → statement M
 count-spec =
