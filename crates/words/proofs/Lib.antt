@@ -4,3 +4,4 @@ pub mod Chain
 pub mod Effects
 pub mod Laws
 pub mod Refusals
+pub mod Standing

@@ -1,21 +1,22 @@
 // The word machine: `check_word` of src/text/analyze.rs as one step with its refusals, and as a run over lent columns.
 mod exits;
 mod judge;
+mod rows;
 mod rules;
 mod sets;
+mod sweeps;
+mod table;
 
 use classes::word_break;
 use records::Refusal;
 use records::Side;
 use records::Verdict;
-use records::cells::cell8;
-use records::check_words;
+use rows::write_answers;
+use sweeps::check;
 ghost use mathlib.Core.Path.{_≡_};
-ghost use mathlib.Core.List.{_++_};
-ghost use Prim.Native.Nat.{_≤_};
-ghost use lib.ListN.{length, drop};
+ghost use lib.ListN.{length};
 ghost use Rattle.words.specs.Step.{startState, stepOf};
-ghost use Rattle.words.specs.Run.{nextAt, answers, runVerdict, runCells};
+ghost use Rattle.words.specs.Run.{runVerdict, runCells};
 
 // What the machine keeps between two records: whether none came yet, the class before, whether the next record has no boundary before
 // it, and the count of RI, 0 to 2. Every value is allowed, and the step refuses those that no run has.
@@ -90,38 +91,12 @@ impl WordState {
     }
 }
 
-// The look-ahead: the record at an index, which may be past the last.
-fn next_at(words: &[u8], i: usize) -> Next
-    ensures { λ r. ⌜ r ≡ nextAt (now (words .entry)) i ⌝ }
-{
-    if i < words.len() {
-        return Next::Class(words[i]);
-    }
-    Next::End
-}
-
-// The answers to all records, into as many cells.
-fn write_answers(words: &[u8], pictographs: &[u8], out: &mut [u8])
-    requires { ⌜ length (now words) ≤ length (now out) ⌝ }
-    ensures { λ _. ⌜ now (out .exit) ≡ answers (now (words .entry)) (now (pictographs .entry)) (length (now (words .entry))) ++ drop (length (now (words .entry))) (now (out .entry)) ⌝ }
-{
-    let mut state = WordState::start();
-    let mut i: usize = 0;
-    while i < words.len() {
-        let next = next_at(words, i + 1);
-        let step = state.rule(cell8(words, i), cell8(pictographs, i), next);
-        state = step.state;
-        out[i] = step.answer;
-        i += 1;
-    }
-}
-
 // The answers to a whole text, one cell a record.
 pub fn run(words: &[u8], pictographs: &[u8], out: &mut [u8]) -> Verdict
     ensures { λ r. ⌜ r ≡ runVerdict (now (words .entry)) (now (pictographs .entry)) (length (now (out .entry))) ⌝ }
     ensures { λ _. ⌜ now (out .exit) ≡ runCells (now (words .entry)) (now (pictographs .entry)) (now (out .entry)) ⌝ }
 {
-    let checked = check_words(words, pictographs);
+    let checked = check(words, pictographs);
     let Verdict::Accepted = checked else {
         return checked;
     };
