@@ -1,23 +1,28 @@
 -- Crate mode and whole mode do the same, as long as the cluster is not full and no token is read again; also where a call ends at the
 -- end of the text. Assumes nothing.
-use Prim.Native.Nat.{ℕ, zero, suc}
+use Prim.Native.Nat.{ℕ, zero, suc, _+_}
 use mathlib.Core.Path.{_≡_, refl, sym, _∙_, ap}
 use mathlib.Core.Bool.{Bool, true, false, cond, false≢true}
 use mathlib.Core.List.{List}
-use lib.Dec.{ltb}
+use native.Mathlib.Omega.{arith}
+use lib.Dec.{eqb, ltb}
 use lib.ListN.{length}
-use Rattle.basics.proofs.Tests.{if-intro, by-test}
+use borrow.Author.Tests.{eqb-true}
+use Rattle.basics.proofs.Tests.{if-intro, by-test, both-of}
 use Rattle.classes.specs.declared.Shape.{Shape}
 use Rattle.classes.specs.declared.Shape.the-variants.{Other}
 use Rattle.parse.specs.declared.Parse.{Parse}
 use Rattle.parse.specs.declared.Place.{Place}
+use Rattle.parse.specs.declared.Info.{Info}
+use Rattle.classes.specs.declared.Mode.{Mode}
 use Rattle.classes.specs.declared.Mode.the-variants.{Crate, Whole}
 use Rattle.parse.specs.declared.Flow.{Flow}
 use Rattle.parse.specs.declared.Flow.the-variants.{GoOn, Stop, Full, End}
-use Rattle.parse.specs.State.{tokenAt, placeAfter, begin, inMode, isGoing, going, atMost, loop, turns, putOf, notedOf, movedOf, stepOf, pushOf, noteOf, onJoiner, hop, goOn, passesEnd, resumedOf, retriedOf}
-use Rattle.parse.specs.Rule.{Rule, skip, stop, push, note, mark, seq, choose, while, scope, thrice, run, holds, takeOf, thriceOf}
+use Rattle.parse.specs.State.{tokenAt, placeAfter, begin, lastRoom, inMode, isGoing, going, withFlow, withInfo, atMost, loop, turns, putOf, notedOf, movedOf, stepOf, pushOf, noteOf, onJoiner, hop, goOn, passesEnd, resumedOf, retriedOf}
+use Rattle.parse.specs.Rule.{Test, Rule, skip, stop, push, note, mark, seq, choose, while, scope, thrice, fit, run, crowded, holds, takeOf, thriceOf}
 use Rattle.parse.proofs.Loop.{at-most-keeps, loop-keeps}
-use Rattle.parse.proofs.Moves.{moved-case, put-same, noted-same}
+use Rattle.parse.proofs.Moves.{moved-case, put-same, noted-same, step-stays}
+use Rattle.parse.proofs.Steps.{plus, put-plus, moved-full}
 use Rattle.parse.proofs.Keeps.{Keeps, hop-keeps, take-keeps, run-keeps}
 
 abbrev pub notFull : Flow → Bool
@@ -104,6 +109,10 @@ moved-agrees n s = if-intro (λ q. fine q ≡ true → movedOf n (up s) ≡ up q
 retried-agrees : (s : Parse) → fine (retriedOf s) ≡ true → up s ≡ up (retriedOf s)
 retried-agrees s = if-intro (λ q. fine q ≡ true → up s ≡ up q) (passesEnd (s .mode) (s .flow) (s .again)) _ _ (λ h f. absurd (false≢true f)) (λ h f. refl)
 
+last-whole : (m : Mode) (n : ℕ) → lastRoom m n ≡ true → eqb n 31 ≡ true
+last-whole Crate n e = absurd (false≢true e)
+last-whole Whole n e = e
+
 module _ (text : List ℕ) where
   abbrev unless : Keeps text (λ q. fine q ≡ false) (λ q. q .again ≡ true)
   unless = not-fine-keeps text
@@ -123,6 +132,32 @@ module _ (text : List ℕ) where
   push-agrees : (c : Shape) (s : Parse) → fine (pushOf text c s) ≡ true → pushOf text c (up s) ≡ up (pushOf text c s)
   unfolding pushOf
   push-agrees c s f = let t = tokenAt text (s .at) in ap (stepOf text) (put-agrees t c s) ∙ step-agrees (putOf t c s) f
+
+  -- the 32nd character fills the cluster
+  last-full : (c : Shape) (s : Parse) → s .len ≡ 31 → fine (pushOf text c s) ≡ false
+  unfolding pushOf
+  last-full c s l = let t = tokenAt text (s .at) in
+      let q = plus t c s in
+      let m = movedOf (length text) q in
+      let e : m .flow ≡ Full = ap (λ (u : Parse). u .flow) (moved-full (length text) q (omega (arith, l))) in
+      ap (λ (u : Parse). fine (stepOf text u)) (put-plus t c s (omega (arith, l)))
+      ∙ ap (λ (u : Parse). fine u) (sym (step-stays text q m refl (if-intro (λ b. b ≡ false) (going m) _ _ (λ h. absurd (false≢true (sym (ap isGoing e) ∙ h))) (λ h. refl))))
+      ∙ ap (λ f. cond (m .again) false (notFull f)) e ∙ go (m .again)
+    where
+      go : (a : Bool) → cond a false false ≡ false
+      go true = refl
+      go false = refl
+
+  -- where whole mode stops before a token that crate mode takes, crate mode's cluster is full with it
+  fit-agrees : (p : Test) (c : Shape) (i : Info) (s : Parse) → fine (cond (crowded text p s) (withFlow Stop s) (pushOf text c (withInfo i s))) ≡ true
+      → cond (crowded text p (up s)) (withFlow Stop (up s)) (pushOf text c (withInfo i (up s))) ≡ up (cond (crowded text p s) (withFlow Stop s) (pushOf text c (withInfo i s)))
+  fit-agrees p c i s f = by-test (crowded text p (up s))
+      (λ k. by-test (crowded text p s) (λ h. rw (k, h))
+      (λ h. absurd (false≢true (sym (last-full c (withInfo i s) (eqb-true (s .len) 31 (both-of (eqb (s .len) 31) (p text (s .at)) k .0))) ∙ (rw h at f)))))
+      (λ k. by-test (crowded text p s)
+      (λ h. let z = both-of (lastRoom (s .mode) (s .len)) (p text (s .at)) h in
+      absurd (false≢true (sym k ∙ rw (last-whole (s .mode) (s .len) (z .0), z .1))))
+      (λ h. rw (k, h) (push-agrees c (withInfo i s) (rw h at f))))
 
   note-agrees : (s : Parse) → fine (noteOf text s) ≡ true → noteOf text (up s) ≡ up (noteOf text s)
   unfolding noteOf
@@ -164,6 +199,9 @@ module _ (text : List ℕ) where
   run-agrees (thrice c) s f = if-intro (λ q. fine q ≡ true → run (thrice c) text (up s) ≡ up q) (going s) _ _
       (λ g h. let r = thriceOf text c s in
       rw g (ap retriedOf (thrice-agrees c s (before (fine r) _ (unless .retried r) h)) ∙ retried-agrees r h)) (λ g h. rw g) f
+
+  run-agrees (fit p m u) s f = let t = tokenAt text (s .at) in
+      if-intro (λ q. fine q ≡ true → run (fit p m u) text (up s) ≡ up q) (going s) _ _ (λ g h. rw g (fit-agrees p (u t) (m t (s .info)) s h)) (λ g h. rw g) f
 
   -- The same of a call: crate mode and whole mode agree on a call that ends neither full nor after repeat (b).
   pub call-agrees : (r : Rule) (p : Place) (j : Bool) → fine (run r text (begin p Crate j)) ≡ true → run r text (begin p Whole j) ≡ inMode Whole (run r text (begin p Crate j))

@@ -8,15 +8,16 @@ use mathlib.Core.Logic.{_⊎_, inl, inr}
 use native.Mathlib.Omega.{arith}
 use lib.Dec.{ltb}
 use lib.ListN.{length}
-use borrow.Author.Tests.{ltb-true, ltb-false}
+use borrow.Author.Tests.{ltb-true, ltb-false, eqb-true}
 use Rattle.basics.proofs.Tests.{if-intro, by-test, both-of}
 use Rattle.classes.specs.declared.Shape.{Shape}
 use Rattle.classes.specs.declared.Shape.the-variants.{Other}
 use Rattle.parse.specs.declared.Parse.{Parse}
 use Rattle.parse.specs.declared.Place.{Place}
 use Rattle.classes.specs.declared.Mode.{Mode}
-use Rattle.parse.specs.State.{tokenAt, placeOf, begin, isGoing, going, putOf, notedOf, pushOf, noteOf, passesEnd, retriedOf}
-use Rattle.parse.specs.Rule.{Test, Rule, skip, stop, push, note, mark, seq, choose, while, scope, thrice, run, holds, takeOf, thriceOf}
+use Rattle.classes.specs.declared.Mode.the-variants.{Crate, Whole}
+use Rattle.parse.specs.State.{tokenAt, placeOf, begin, lastRoom, isGoing, going, withInfo, putOf, notedOf, pushOf, noteOf, passesEnd, retriedOf}
+use Rattle.parse.specs.Rule.{Test, Rule, skip, stop, push, note, mark, seq, choose, while, scope, thrice, fit, run, crowded, holds, takeOf, thriceOf}
 use Rattle.parse.specs.declared.Emoji.the-variants.{Default}
 use Rattle.parse.specs.Rule.{isEmoji, setEmoji}
 use Rattle.parse.specs.Shared.{emojiTurn, emojis, newline, otherArm}
@@ -79,6 +80,7 @@ quiet (choose p a b) = cond (quiet a) (quiet b) false
 quiet (while p a) = false
 quiet (scope a) = false
 quiet (thrice c) = false
+quiet (fit p m f) = false
 
 -- such a rule leaves the flow and the place
 pub run-quiet : (r : Rule) (text : List ℕ) (s : Parse) → quiet r ≡ true → ((run r text s) .flow ≡ s .flow) × ((run r text s) .at ≡ s .at)
@@ -99,12 +101,13 @@ run-quiet (choose p a b) text s q =
 run-quiet (while p a) text s q = absurd (false≢true q)
 run-quiet (scope a) text s q = absurd (false≢true q)
 run-quiet (thrice c) text s q = absurd (false≢true q)
+run-quiet (fit p m f) text s q = absurd (false≢true q)
 
 -- so a test stays as it was
 pub quiet-holds : (r : Rule) (text : List ℕ) (p : Test) (s : Parse) → quiet r ≡ true → holds text p s ≡ true → holds text p (run r text s) ≡ true
 quiet-holds r text p s q h = let k = run-quiet r text s q in rw (k .0, k .1) h
 
--- a rule that pushes or notes first, after marks at most
+-- a rule that pushes or notes first, after marks at most; where a `fit` stops, 31 were pushed before it
 abbrev pub fills : Rule → Bool
 fills skip = false
 fills stop = false
@@ -116,6 +119,14 @@ fills (choose p a b) = cond (fills a) (fills b) false
 fills (while p a) = false
 fills (scope a) = fills a
 fills (thrice c) = true
+fills (fit p m f) = true
+
+crowded-some : (text : List ℕ) (p : Test) (s : Parse) → crowded text p s ≡ true → Some s
+crowded-some text p s h = go (s .mode) (s .len) (both-of (lastRoom (s .mode) (s .len)) _ h .0)
+  where
+    go : (m : Mode) (n : ℕ) → lastRoom m n ≡ true → 0 < n
+    go Crate n e = absurd (false≢true e)
+    go Whole n e = omega (arith, eqb-true n 31 e)
 
 -- such a rule leaves a character
 pub run-fills : (r : Rule) (text : List ℕ) (s : Parse) → fills r ≡ true → going s ≡ true → Some (run r text s)
@@ -134,6 +145,10 @@ run-fills (choose p a b) text s f g =
     if-intro Some (holds text p s) (run a text s) (run b text s) (λ h. run-fills a text s (k .0) g) (λ h. run-fills b text s (k .1) g)
 run-fills (while p a) text s f g = absurd (false≢true f)
 run-fills (scope a) text s f g = if-intro Some (going s) _ _ (λ h. run-fills a text s f g) (λ h. absurd (false≢true (sym h ∙ g)))
+run-fills (fit p m c) text s f g = let t = tokenAt text (s .at) in
+    if-intro Some (going s) _ _
+    (λ h. if-intro Some (crowded text p s) _ _ (λ k. crowded-some text p s k) (λ k. push-some text (c t) (withInfo (m t (s .info)) s)))
+    (λ h. absurd (false≢true (sym h ∙ g)))
 run-fills (thrice c) text s f g = if-intro Some (going s) _ _ (λ h. retried-some (thriceOf text c s) (thrice-some text c s g)) (λ h. absurd (false≢true (sym h ∙ g)))
 
 -- a loop that is entered, whose body fills

@@ -8,8 +8,8 @@ use Rattle.basics.proofs.Tests.{if-same, both-of}
 use Rattle.classes.specs.declared.Shape.{Shape}
 use Rattle.classes.specs.declared.Shape.the-variants.{Other}
 use Rattle.parse.specs.declared.Parse.{Parse}
-use Rattle.parse.specs.State.{tokenAt, going, putOf, notedOf, movedOf, onJoiner, hop, stepOf, pushOf, noteOf}
-use Rattle.parse.specs.Rule.{Rule, skip, stop, push, note, mark, seq, choose, while, scope, thrice, run, holds, takeOf, thriceOf}
+use Rattle.parse.specs.State.{tokenAt, going, withInfo, putOf, notedOf, movedOf, onJoiner, hop, stepOf, pushOf, noteOf}
+use Rattle.parse.specs.Rule.{Rule, skip, stop, push, note, mark, seq, choose, while, scope, thrice, fit, run, crowded, holds, takeOf, thriceOf}
 use Rattle.parse.proofs.Loop.{loop-keeps}
 use Rattle.parse.proofs.Moves.{put-same, noted-same, moved-case}
 
@@ -25,6 +25,7 @@ free (choose p a b) = cond (free a) (free b) false
 free (while p a) = free a
 free (scope a) = free a
 free (thrice c) = false
+free (fit p m f) = true
 
 abbrev againOf : Parse → Bool
 againOf s = s .again
@@ -51,7 +52,7 @@ module _ (text : List ℕ) where
   thrice-again c s = let a = takeOf text c s in let b = takeOf text c a in take-again c b ∙ take-again c a ∙ take-again c s
 
   pub run-again : (r : Rule) (s : Parse) → free r ≡ true → (run r text s) .again ≡ s .again
-  unfolding run noteOf
+  unfolding run pushOf noteOf
   run-again skip s k = refl
   run-again stop s k = if-same againOf (going s) _ s (s .again) refl refl
   run-again (push f) s k = take-again (f (tokenAt text (s .at))) s
@@ -64,3 +65,5 @@ module _ (text : List ℕ) where
   run-again (while p a) s k = loop-keeps text (holds text p) (run a text) (λ q. q .again ≡ s .again) (λ q i h. run-again a q k ∙ i) s refl
   run-again (scope a) s k = if-same againOf (going s) _ s (s .again) (run-again a s k) refl
   run-again (thrice c) s k = absurd (false≢true k)
+  run-again (fit p m f) s k = let t = tokenAt text (s .at) in let u = withInfo (m t (s .info)) s in
+      if-same againOf (going s) _ s (s .again) (if-same againOf (crowded text p s) _ _ (s .again) refl (step-again (putOf t (f t) u) ∙ put-again (f t) u)) refl

@@ -20,7 +20,7 @@ use Rattle.classes.specs.declared.Mode.the-variants.{Crate, Whole}
 use Rattle.parse.specs.declared.Flow.{Flow}
 use Rattle.parse.specs.declared.Flow.the-variants.{GoOn, Stop}
 use Rattle.parse.specs.State.{tokenAt, placeAfter, filledAt, placeOf, going, withFlow, withCells, withInfo, withAgain, putOf, notedOf, movedOf, stepOf, pushOf, noteOf, onJoiner, hop, goOn, passesEnd, resumedOf, retriedOf}
-use Rattle.parse.specs.Rule.{Rule, skip, stop, push, note, mark, seq, choose, while, scope, thrice, run, holds, takeOf, thriceOf}
+use Rattle.parse.specs.Rule.{Rule, skip, stop, push, note, mark, seq, choose, while, scope, thrice, fit, run, crowded, holds, takeOf, thriceOf}
 use Rattle.parse.proofs.Loop.{loop-keeps}
 use Rattle.parse.proofs.Moves.{joiner-going, moved-case, moved-at}
 
@@ -69,6 +69,10 @@ module _ (text : List ℕ) (I J : Parse → Type 0) (k : Keeps text I J) where
   run-keeps (while p a) s i = loop-keeps text (holds text p) (run a text) I (λ q j h. run-keeps a q j) s i
   run-keeps (scope a) s i = if-intro I (going s) _ _ (λ g. k .resumed (run a text s) (run-keeps a s i)) (λ g. i)
   run-keeps (thrice c) s i = if-intro I (going s) _ _ (λ g. k .retried (thriceOf text c s) (thrice-keeps c s i)) (λ g. i)
+  run-keeps (fit p m f) s i = let t = tokenAt text (s .at) in
+      if-intro I (going s) _ _
+      (λ g. if-intro I (crowded text p s) _ _ (λ h. k .stopped s g i) (λ h. push-keeps (f t) (withInfo (m t (s .info)) s) g (k .marked (m t (s .info)) s i)))
+      (λ g. i)
 
 -- what a change of cells keeps, a put and a note keep
 module _ (I : Parse → Type 0) (cells : (n : ℕ) (cs : List Pushed) (s : Parse) → I s → I (withCells n cs s)) (t : ℕ) (s : Parse) (i : I s) where

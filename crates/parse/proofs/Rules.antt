@@ -13,9 +13,9 @@ use Rattle.parse.specs.declared.Parse.{Parse}
 use Rattle.parse.specs.declared.Info.{Info}
 use Rattle.parse.specs.declared.Flow.the-variants.{Stop}
 use Rattle.parse.specs.State.{tokenAt, turns, going, withFlow, withInfo, movedOf, onJoiner, pushOf, notedOf, noteOf, stepOf, resumedOf, retriedOf}
-use Rattle.parse.specs.Rule.{Test, Rule, skip, stop, push, note, mark, seq, choose, while, scope, thrice, run, takeOf, thriceOf, holds, take, either, oneOf, kindHere, is}
+use Rattle.parse.specs.Rule.{Test, Rule, skip, stop, push, note, mark, seq, choose, while, scope, thrice, fit, run, crowded, takeOf, thriceOf, holds, take, either, oneOf, kindHere, is}
 use Rattle.parse.proofs.Moves.{joiner-going, step-over}
-use Rattle.parse.proofs.Runs.{moves, run-still, run-goes, run-stays, run-falls, run-seq, run-then, run-else}
+use Rattle.parse.proofs.Runs.{moves, run-still, run-goes, run-stays, run-falls, run-seq, run-then, run-else, run-crowded, run-roomy}
 
 -- s is the parse before, r the function's result, t a test's result
 module _ (text : List ℕ) (s r : Parse) where
@@ -68,6 +68,12 @@ module _ (text : List ℕ) (s r : Parse) where
 
   pub by-else : (p : Test) (a b : Rule) (t : Bool) → t ≡ holds text p s → t ≡ false → r ≡ run b text s → r ≡ run (choose p a b) text s
   by-else p a b t e h q = q ∙ sym (run-else p a b text s (sym e ∙ h))
+
+  pub by-crowded : (p : Test) (m : ℕ → Info → Info) (f : ℕ → Shape) (t : Bool) → t ≡ crowded text p s → t ≡ true → r ≡ run stop text s → r ≡ run (fit p m f) text s
+  by-crowded p m f t e h q = q ∙ sym (run-crowded p m f text s (sym e ∙ h))
+
+  pub by-roomy : (p : Test) (m : ℕ → Info → Info) (f : ℕ → Shape) (t : Bool) → t ≡ crowded text p s → t ≡ false → r ≡ run (seq (mark m) (push f)) text s → r ≡ run (fit p m f) text s
+  by-roomy p m f t e h q = q ∙ sym (run-roomy p m f text s (sym e ∙ h))
 
 pub ruleset rules = (by-skip, by-push, by-note, by-scope, by-thrice, by-stop, by-mark, by-still, by-then, by-else, by-seq)
 

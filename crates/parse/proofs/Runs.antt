@@ -8,9 +8,11 @@ use native.Mathlib.Omega.{arith}
 use native.Mathlib.Nat.{le-refl, lt-of-le-of-lt, lt-of-lt-of-le}
 use lib.ListN.{length}
 use Rattle.basics.proofs.Tests.{if-intro, by-test}
+use Rattle.classes.specs.declared.Shape.{Shape}
 use Rattle.parse.specs.declared.Parse.{Parse}
-use Rattle.parse.specs.State.{tokenAt, turns, going}
-use Rattle.parse.specs.Rule.{Test, Rule, skip, stop, push, note, mark, seq, choose, while, scope, thrice, run, holds}
+use Rattle.parse.specs.declared.Info.{Info}
+use Rattle.parse.specs.State.{tokenAt, turns, going, withInfo}
+use Rattle.parse.specs.Rule.{Test, Rule, skip, stop, push, note, mark, seq, choose, while, scope, thrice, fit, run, crowded, holds}
 use Rattle.parse.proofs.Loop.{Falls, loop-goes, loop-stays}
 use Rattle.parse.proofs.Moves.{push-turns, note-turns}
 use Rattle.parse.proofs.Keeps.{run-at}
@@ -28,6 +30,7 @@ run-still (choose p a b) text s g = rw g (run-still b text s g)
 run-still (while p a) text s g = loop-stays text (holds text p) (run a text) s (rw g)
 run-still (scope a) text s g = rw g
 run-still (thrice c) text s g = rw g
+run-still (fit p m f) text s g = rw g
 
 -- the turns left do not grow
 turns-at : (text : List ℕ) (s q : Parse) → going s ≡ true → s .at ≤ q .at → turns text q ≤ turns text s
@@ -48,6 +51,7 @@ moves (choose p a b) = cond (moves a) (moves b) false
 moves (while p a) = false
 moves (scope a) = false
 moves (thrice c) = false
+moves (fit p m f) = true
 
 -- such a rule passes a token or ends the flow
 pub run-moves : (r : Rule) (text : List ℕ) (s : Parse) → moves r ≡ true → going s ≡ true → turns text (run r text s) < turns text s
@@ -71,6 +75,10 @@ run-moves (choose p a b) text s m g = by-test (moves a)
 run-moves (while p a) text s m g = absurd (false≢true m)
 run-moves (scope a) text s m g = absurd (false≢true m)
 run-moves (thrice c) text s m g = absurd (false≢true m)
+run-moves (fit p u f) text s m g = let t = tokenAt text (s .at) in
+    if-intro (λ q. turns text q < turns text s) (going s) _ _
+    (λ h. if-intro (λ q. turns text q < turns text s) (crowded text p s) _ _ (λ c. rw g (omega arith)) (λ c. push-turns text (f t) (withInfo (u t (s .info)) s) g))
+    (λ h. absurd (false≢true (sym h ∙ g)))
 
 pub holds-going : (text : List ℕ) (p : Test) (s : Parse) → holds text p s ≡ true → going s ≡ true
 holds-going text p s h = by-test (going s) (λ g. g) (λ g. absurd (false≢true (rw g at h)))
@@ -103,3 +111,11 @@ run-then p a b text s h = rw h
 pub run-else : (p : Test) (a b : Rule) (text : List ℕ) (s : Parse) → holds text p s ≡ false → run (choose p a b) text s ≡ run b text s
 unfolding run
 run-else p a b text s h = rw h
+
+pub run-crowded : (p : Test) (m : ℕ → Info → Info) (f : ℕ → Shape) (text : List ℕ) (s : Parse) → crowded text p s ≡ true → run (fit p m f) text s ≡ run stop text s
+unfolding run
+run-crowded p m f text s h = rw h
+
+pub run-roomy : (p : Test) (m : ℕ → Info → Info) (f : ℕ → Shape) (text : List ℕ) (s : Parse) → crowded text p s ≡ false → run (fit p m f) text s ≡ run (seq (mark m) (push f)) text s
+unfolding run
+run-roomy p m f text s h = by-test (going s) (λ g. rw (h, g, g)) (λ g. rw (h, g, g))

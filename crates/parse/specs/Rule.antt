@@ -1,5 +1,5 @@
 -- The grammar of a parser as data, and what it does: a rule for each Rust function, and one meaning, `run`, for both modes.
-use Prim.Native.Nat.{ℕ}
+use Prim.Native.Nat.{ℕ, _+_}
 use mathlib.Core.Bool.{Bool, true, false, cond, _||_}
 use mathlib.Core.List.{List}
 use lib.Dec.{eqb}
@@ -13,7 +13,7 @@ use Rattle.parse.specs.declared.Emoji.{Emoji}
 use Rattle.parse.specs.declared.Space.{Space}
 use Rattle.parse.specs.declared.Space.the-variants.{From}
 use Rattle.parse.specs.declared.Flow.the-variants.{Stop}
-use Rattle.parse.specs.State.{tokenAt, going, withFlow, withInfo, pushOf, noteOf, loop, resumedOf, retriedOf}
+use Rattle.parse.specs.State.{tokenAt, lastRoom, going, withFlow, withInfo, pushOf, noteOf, loop, resumedOf, retriedOf}
 
 -- a test looks at the text from a place, so that a look-ahead is a test too
 abbrev pub Test : Type 0
@@ -37,10 +37,17 @@ pub data Rule : Type 0 where
   -- kinzi, a push and a step three times; that the Rust's three pushes and then three steps come to the same is `kinzi-as-rust` of the
   -- crate `myanmar`
   thrice : Shape → Rule
+  -- a mark and a push, where the token behind may be wanted in the same cluster: where the test holds and there is no room for both, it
+  -- is a stop before either
+  fit : Test → (ℕ → Info → Info) → (ℕ → Shape) → Rule
 
 -- a test of the current token, where there is one to be taken
 abbrev pub holds : List ℕ → Test → Parse → Bool
 holds text p s = cond (going s) (p text (s .at)) false
+
+-- no room for the current token and the one behind it, of which the test says that they belong together
+abbrev pub crowded : List ℕ → Test → Parse → Bool
+crowded text p s = cond (lastRoom (s .mode) (s .len)) (p text (s .at)) false
 
 abbrev pub takeOf : List ℕ → Shape → Parse → Parse
 takeOf text c s = let r = pushOf text c s in cond (going s) r s
@@ -63,6 +70,10 @@ run (choose p a b) text s =
 run (while p a) text s = loop text (holds text p) (run a text) s
 run (scope a) text s = let r = run a text s in cond (going s) (resumedOf r) s
 run (thrice c) text s = let r = thriceOf text c s in cond (going s) (retriedOf r) s
+run (fit p m f) text s =
+    let t = tokenAt text (s .at) in
+    let r = pushOf text (f t) (withInfo (m t (s .info)) s) in
+    cond (going s) (cond (crowded text p s) (withFlow Stop s) r) s
 
 -- one rule behind another; it binds more strongly than a choice
 infixr 30 _▸_
@@ -79,6 +90,10 @@ test ⇒ rule ∣ later = choose test rule later
 
 abbrev pub is : ℕ → Test
 is k text i = eqb (kindOf (tokenAt text i)) k
+
+-- of the token behind it; past the end there is none
+abbrev pub nextIs : ℕ → Test
+nextIs k text i = eqb (kindOf (tokenAt text (i + 1))) k
 
 abbrev pub isBreak : ℕ → Test
 isBreak k text i = eqb (breakOf (tokenAt text i)) k

@@ -11,7 +11,7 @@ use Rattle.classes.specs.Scalar.{CR, LF, ZWNJ, ZWJ, VS15, VS16}
 use Rattle.token.specs.Token.{scalarOf, categoryOf}
 use Rattle.parse.specs.declared.Emoji.the-variants.{Default, Text, Color}
 use Rattle.parse.specs.declared.Space.the-variants.{Newline}
-use Rattle.parse.specs.Rule.{Rule, skip, stop, push, note, mark, while, scope, _▸_, _⇒_∣_, take, isBreak, isScalar, isEmoji, setEmoji, setSpace, setSpaceFromChar}
+use Rattle.parse.specs.Rule.{Rule, skip, stop, push, note, mark, while, scope, fit, _▸_, _⇒_∣_, take, nextIs, isBreak, isScalar, isEmoji, setEmoji, setSpace, setSpaceFromChar}
 
 -- `parse_emoji_extension`, its arm EX: U+FE0F and U+FE0E "are noted instead" (SCOPE 6.2)
 unfoldable pub emojiMark : Rule
@@ -42,6 +42,11 @@ otherClass t =
 
 unfoldable pub newline : Rule
 newline = mark (setSpace Newline) ▸ take Control
+
+-- a newline that the token behind it belongs to, where that is of a kind: "if 31 characters are already pushed and the next token is" of
+-- that kind, "the cluster ends before" it, "with space none" (SCOPE 6.9)
+unfoldable pub newlineWith : ℕ → Rule
+newlineWith k = fit (nextIs k) (setSpace Newline) (λ t. Control)
 
 -- the arm `O`: "uniform clustering of CRLF across the parsers", by scalar
 unfoldable pub otherArm : Rule

@@ -1,5 +1,6 @@
--- The parse under way, and what one push, one note and one step make of it. Crate mode and whole mode differ in one place each:
--- `filledAt`, what a step does at a cluster of 32, and `passesEnd`, what becomes of the end of the text within a kinzi.
+-- The parse under way, and what one push, one note and one step make of it. Crate mode and whole mode differ in three places:
+-- `filledAt`, what a step does at a cluster of 32, `passesEnd`, what becomes of the end of the text within a kinzi, and `lastRoom`,
+-- whether a token that needs the next one behind it may be the 32nd.
 use Prim.Native.Nat.{ℕ, zero, suc, _+_, _-_}
 use mathlib.Core.Bool.{Bool, true, false, cond}
 use mathlib.Core.List.{List}
@@ -106,6 +107,11 @@ notedOf t s = cond (ltb 0 (s .len))
 abbrev pub filledAt : Mode → ℕ → ℕ → ℕ
 filledAt Crate n i = i
 filledAt Whole n i = placeAfter n i
+
+-- "if 31 characters are already pushed" (SCOPE 6.9), in whole mode
+abbrev pub lastRoom : Mode → ℕ → Bool
+lastRoom Crate n = false
+lastRoom Whole n = eqb n 31
 
 -- off the current token, in a text of n: the cluster is full, or there is a next token, or the text ends and the last one stays current
 abbrev pub movedOf : ℕ → Parse → Parse

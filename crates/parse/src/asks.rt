@@ -1,9 +1,11 @@
 // What a parser asks of the current token. Where the call does not go on there is none to be taken, and every answer is no.
 use crate::Parse;
+use crate::state::last_room;
+use crate::state::token_after;
 use crate::state::token_at;
 ghost use mathlib.Core.Path.{_≡_};
 ghost use mathlib.Core.List.{[], _∷_};
-ghost use Rattle.parse.specs.Rule.{holds, is, isBreak, isScalar, isEmoji, isSelector, oneOf, kindHere};
+ghost use Rattle.parse.specs.Rule.{holds, crowded, is, nextIs, isBreak, isScalar, isEmoji, isSelector, oneOf, kindHere};
 
 impl Parse {
     // The current token's kind, or 64, which is none.
@@ -70,6 +72,19 @@ impl Parse {
         let here = token::selector(token_at(text, at));
         if self.going() {
             return here == 1;
+        }
+        false
+    }
+
+    // Whether there is no room for the current token and the next, which is of the kind that belongs to it.
+    pub(crate) fn is_crowded(self, text: &[u64], kind: u8) -> bool
+        ensures { λ r. ⌜ r ≡ crowded (now (text .entry)) (nextIs kind) self ⌝ }
+    {
+        let at = self.at;
+        let next = token::kind(token_after(text, at));
+        let mode = self.mode;
+        if last_room(mode, self.len) {
+            return next == kind;
         }
         false
     }

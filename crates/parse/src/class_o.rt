@@ -7,7 +7,7 @@ use classes::category;
 use classes::scalar;
 ghost use mathlib.Core.Path.{_≡_};
 ghost use Rattle.parse.specs.Rule.{run, push};
-ghost use Rattle.parse.specs.Shared.{otherClass, newline, otherArm};
+ghost use Rattle.parse.specs.Shared.{otherClass, newline, newlineWith, otherArm};
 
 // The class of a character of class O, by its category.
 fn other_class(t: u64) -> Shape
@@ -44,6 +44,16 @@ impl Parse {
     {
         self.set_space(text, Space::Newline)
             .accept_any_as(text, Shape::Control)
+    }
+
+    // A newline that the next token belongs to, where that is of a kind; without room for both it is left to the next cluster.
+    pub fn parse_newline_with(self, text: &[u64], kind: u8) -> Parse
+        ensures { λ r. ⌜ r ≡ run (newlineWith kind) (now (text .entry)) self ⌝ }
+    {
+        if self.is_crowded(text, kind) {
+            return self.stop(text);
+        }
+        self.parse_newline(text)
     }
 
     // The arm `O`: CR with an LF, LF, or any other, by its category.

@@ -12,13 +12,23 @@ ghost use mathlib.Core.Path.{_≡_};
 ghost use mathlib.Core.Bool.{cond};
 ghost use lib.Dec.{ltb};
 ghost use Prim.Native.Nat.{_+_, _-_, _<_};
-ghost use Rattle.parse.specs.State.{tokenAt, placeAfter, clusterOf, placeOf, isGoing, withFlow, withInfo, filledAt, putOf, notedOf, movedOf, onJoiner, stepOf, pushOf, resumedOf, retriedOf, goOn, passesEnd};
+ghost use Rattle.parse.specs.State.{tokenAt, placeAfter, clusterOf, placeOf, isGoing, withFlow, withInfo, filledAt, lastRoom, putOf, notedOf, movedOf, onJoiner, stepOf, pushOf, resumedOf, retriedOf, goOn, passesEnd};
 ghost use Rattle.parse.specs.Inner.{held, stepPast, lastPushed};
 
 pub fn token_at(text: &[u64], i: usize) -> u64
     ensures { λ r. ⌜ r ≡ tokenAt (now (text .entry)) i ⌝ }
 {
     if i < text.len() { text[i] } else { 0 }
+}
+
+// The token behind a place.
+pub(crate) fn token_after(text: &[u64], i: usize) -> u64
+    ensures { λ r. ⌜ r ≡ tokenAt (now (text .entry)) (i + 1) ⌝ }
+{
+    if i < text.len() {
+        return token_at(text, i + 1);
+    }
+    0
 }
 
 fn place_after(n: usize, i: usize) -> usize
@@ -34,6 +44,16 @@ fn filled_at(mode: Mode, n: usize, i: usize) -> usize
     match mode {
         Mode::Crate => i,
         Mode::Whole => place_after(n, i),
+    }
+}
+
+// Whether a cluster of len characters has room for one more that must not be parted from the next: where the modes differ.
+pub(crate) fn last_room(mode: Mode, len: usize) -> bool
+    ensures { λ r. ⌜ r ≡ lastRoom mode len ⌝ }
+{
+    match mode {
+        Mode::Crate => false,
+        Mode::Whole => len == 31,
     }
 }
 

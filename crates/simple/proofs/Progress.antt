@@ -12,7 +12,7 @@ use Rattle.parse.specs.declared.Parse.{Parse}
 use Rattle.parse.specs.declared.Place.{Place}
 use Rattle.parse.specs.State.{going, begin, placeOf}
 use Rattle.parse.specs.Rule.{run, holds, mark, while, take, manyAs, is, isEmoji, oneOf, setBroken}
-use Rattle.parse.specs.Shared.{newline}
+use Rattle.parse.specs.Shared.{newline, newlineWith}
 use Rattle.parse.proofs.Runs.{run-seq}
 use Rattle.parse.proofs.Fills.{Some, run-some, quiet-holds, run-fills, while-fills, while-either, choose-case, emojis-some}
 use Rattle.parse.proofs.Conserve.{passes}
@@ -39,7 +39,7 @@ module _ (text : List ℕ) where
       (λ j. other-ready s g)))
 
   control-ready : (s : Parse) → going s ≡ true → Ready text (run control text s)
-  unfolding control newline
+  unfolding control newline newlineWith
   control-ready s g = choose-case (Ready text) (is CN) _ _ text s (λ h. inl (run-fills _ text s refl g))
       (λ h. choose-case (Ready text) (is LF) _ _ text s (λ k. inl (run-fills newline text s refl g))
       (λ k. choose-case (Ready text) (is CR) _ _ text s (λ j. inl (run-fills _ text s refl g))

@@ -5,7 +5,7 @@ use Rattle.classes.specs.declared.Shape.the-variants.{Base, Mark, Control, Vs, 
 use Rattle.classes.specs.ClusterBreak.{CN, CR, LF, L, «V», T, LV, LVT, RI, EX, SM, ZWJ, PP}
 use Rattle.classes.specs.Scalar.{ZWNJ}
 use Rattle.parse.specs.Rule.{Rule, Test, skip, mark, while, _▸_, _⇒_∣_, take, acceptAs, manyAs, is, isScalar, isEmoji, isSelector, oneOf, setBroken, setSpaceFromChar, forceNormalize}
-use Rattle.parse.specs.Shared.{emojis, newline}
+use Rattle.parse.specs.Shared.{emojis, newline, newlineWith}
 
 -- `parse_extension`, where it answers true
 unfoldable pub isExtension : Test
@@ -56,12 +56,12 @@ syllable =
     ∣ oneOf (LVT ∷ T ∷ []) ⇒ trailing
     ∣ other
 
--- `match self.kind()`: the arms `CN`, `LF` and `CR`
+-- `match self.kind()`: the arms `CN`, `LF` and `CR`; CR and LF are not parted in whole mode, also at 32 characters
 unfoldable pub control : Rule
 control =
     is CN ⇒ take Control
     ∣ is LF ⇒ newline
-    ∣ is CR ⇒ newline ▸ acceptAs LF Control
+    ∣ is CR ⇒ newlineWith LF ▸ acceptAs LF Control
     ∣ syllable
 
 -- `if self.emoji()` and its `else`

@@ -26,8 +26,8 @@ returns-2 c = unfold control in search rules depth 8
 kind-is-requires-3 : tie.Need-kind-is-requires-3
 kind-is-requires-3 c κs = search needs
 
-parse-newline-requires-2 : tie.Need-parse-newline-requires-2
-parse-newline-requires-2 c κs = search needs
+parse-newline-with-requires : tie.Need-parse-newline-with-requires
+parse-newline-with-requires c κs = search needs
 
 accept-as-requires : tie.Need-accept-as-requires
 accept-as-requires c κs = search needs
@@ -52,7 +52,7 @@ parse-control-spec =
     parse-newline-requires
     returns-2
     kind-is-requires-3
-    parse-newline-requires-2
+    parse-newline-with-requires
     accept-as-requires
     returns-3
     parse-syllable-requires
