@@ -406,9 +406,19 @@ def mentioned(term):
         yield term
     elif isinstance(term, Lambda):
         yield from mentioned(term.body)
-    elif isinstance(term, tuple) and term[0] != "mark":
-        for part in term:
+    elif isinstance(term, tuple):
+        for part in unmarked(term):
             yield from mentioned(part)
+
+
+def unmarked(term):
+    """The parts of a term, but for a mark."""
+    match term:
+        case ("mark", _):
+            return ()
+        case ("fit", test, _, shape):
+            return (test, shape)
+    return term
 
 
 def foundations(definition, found=None):

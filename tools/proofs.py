@@ -92,32 +92,40 @@ unfolding $grammar
 cluster-free = refl
 """
 
-FREE = """
-all-free : allTrue (map free rules) ≡ true
-unfolding $names
-all-free = refl
-
-pub free-at : (j : ℕ) → free (getD rules j skip) ≡ true
-free-at j = map-at free rules skip j ∙ true-at (map free rules) all-free j
+CLUSTER_SPARE = """
+pub cluster-spare : spare false $cluster ≡ true
+unfolding $grammar
+cluster-spare = refl
 """
 
-# as FREE, with each rule's answer said
-FREE_SAID = """
-all-free : map free rules ≡ $trues
+SPARE = """
+all-spare : allTrue (map (spare false) rules) ≡ true
 unfolding $names
-all-free = refl
+all-spare = refl
 
-pub free-at : (j : ℕ) → free (getD rules j skip) ≡ true
-free-at j = map-at free rules skip j ∙ ap (λ bs. getD bs j true) all-free ∙ all-true j
-  where
-    all-true : (j : ℕ) → getD ($trues) j true ≡ true
-    all-true j = true-at ($trues) refl j
+pub spare-at : (j : ℕ) → spare false (getD rules j skip) ≡ true
+spare-at j = map-at (spare false) rules skip j ∙ true-at (map (spare false) rules) all-spare j
 """
 
-SIMPLE = [RULES, ANSWERS, RIGHT, OKAY, CLUSTER_FREE, FREE_SAID]
+# as SPARE, but for the one rule with a `fit`
+SPARE_BUT_ONE = """
+-- the rule that is left behind prepended characters, in which a `fit` may stop: the grammar itself
+pub fitting-is : getD rules $fitting skip ≡ $cluster
+unfolding $grammar $names
+fitting-is = refl
+
+all-spare : tabulate (λ j. cond (eqb j $fitting) true (spare false (getD rules j skip))) 0 $rules_many ≡ tabulate (λ j. true) 0 $rules_many
+unfolding $names
+all-spare = refl
+
+pub spare-at : (j : ℕ) → j < $rules_many → cond (eqb j $fitting) true (spare false (getD rules j skip)) ≡ true
+spare-at j h = agree (λ j. cond (eqb j $fitting) true (spare false (getD rules j skip))) (λ j. true) $rules_many all-spare j h
+"""
+
+SIMPLE = [RULES, ANSWERS, RIGHT, OKAY, CLUSTER_FREE, SPARE_BUT_ONE]
 # its `cluster` is not free: it takes a kinzi's three tokens at once
-MYANMAR = [RULES, LOOK_AHEAD, ANSWERS, RIGHT_OF_PAIRS, OKAY, FREE]
-COMPLEX = [RULES, ANSWERS, RIGHT_OF_PAIRS, OKAY, FREE, CLUSTER_FREE]
+MYANMAR = [RULES, LOOK_AHEAD, ANSWERS, RIGHT_OF_PAIRS, OKAY, SPARE]
+COMPLEX = [RULES, ANSWERS, RIGHT_OF_PAIRS, OKAY, SPARE, CLUSTER_FREE, CLUSTER_SPARE]
 
 # ---- What stands for the names in them --------------------------------------------------------
 
@@ -162,12 +170,17 @@ def is_rule(term):
     return isinstance(term, tuple) and term[0] in RULE.own
 
 
+def has_fit(rule):
+    return rule[0] == "fit" or any(has_fit(part) for part in rule[1:] if is_rule(part))
+
+
 def parameters(table, parts):
     """What the pieces of every grammar name."""
     return {
         "rules": chain(parts.name(rule) for rule in table.rules),
         "names": " ".join(f"r{number}" for number in range(len(parts.texts))),
-        "trues": chain("true" for _ in table.rules),
+        "rules_many": len(table.rules),
+        "fitting": next((number for number, rule in enumerate(table.rules) if has_fit(rule)), None),
         "sampled": "pair of symbols" if table.is_paired else "symbol",
         "samples": chain_lines([sample.token for sample in table.every_sample()], 6),
         "cluster": argument(table.cluster),
@@ -240,7 +253,7 @@ def origins(table):
         (f"Rattle.{table.crate}.specs.Grammar", table.module.own),
         (f"Rattle.tables.specs.{table.name}Table", [table.antt_name]),
         ("Rattle.parse.proofs.Free", ["free"]),
-        ("Rattle.residual.proofs.Residual", ["first"]),
+        ("Rattle.residual.proofs.Residual", ["spare", "first"]),
         ("Rattle.tables.proofs.Cells", cells.split()),
     ]
 

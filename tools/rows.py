@@ -25,7 +25,8 @@ class Step(NamedTuple):
 
 
 def first(ask, rule):
-    """What a rule does at a token that `ask` answers tests of: `first` of crates/residual, but for marks, which no cell shows."""
+    """What a rule does at a token that `ask` answers tests of: `first` of crates/residual, but for marks, which no cell shows. Where a
+    `fit` stops, which goes by the room that is left, the loop over the table sees to it."""
     match rule:
         case ("skip",) | ("mark", _):
             return PASS
@@ -33,7 +34,7 @@ def first(ask, rule):
             return HALT
         case ("note",):
             return Step(NOTE, SKIP)
-        case ("push", shape):
+        case ("push", shape) | ("fit", _, _, shape):
             return Step(shape, SKIP)
         case ("seq", a, b):
             done = first(ask, a)

@@ -14,12 +14,11 @@ use Rattle.parse.specs.declared.Parse.{Parse}
 use Rattle.parse.specs.declared.Info.{Info}
 use Rattle.parse.specs.declared.Flow.the-variants.{GoOn, Stop}
 use Rattle.parse.specs.State.{tokenAt, going, withFlow, withInfo, withAgain, turns, putOf, notedOf, movedOf, onJoiner, hop, stepOf, pushOf, noteOf, goOn, passesEnd, resumedOf, retriedOf}
-use Rattle.parse.specs.Rule.{Test, Rule, skip, stop, push, note, mark, seq, choose, while, scope, thrice, run, holds, take, thriceOf}
+use Rattle.parse.specs.Rule.{Test, Rule, skip, stop, push, note, mark, seq, choose, while, scope, thrice, fit, run, crowded, holds, take, thriceOf}
 use Rattle.parse.proofs.Loop.{loop-keeps}
 use Rattle.parse.proofs.Moves.{moved-case, put-same, noted-same}
 use Rattle.parse.proofs.Keeps.{thrice-mode}
 use Rattle.parse.proofs.Steps.{going-flow}
-use Rattle.parse.proofs.Free.{free}
 use Rattle.parse.proofs.Runs.{run-still, run-goes, run-stays, run-falls, moves}
 
 -- what is done with the current token
@@ -57,6 +56,7 @@ join (choose p a c) b = seq (choose p a c) b
 join (while p a) b = seq (while p a) b
 join (scope a) b = seq (scope a) b
 join (thrice c) b = seq (thrice c) b
+join (fit p m f) b = seq (fit p m f) b
 
 abbrev pub close : Rule → Rule
 close skip = skip
@@ -69,6 +69,7 @@ close (choose p a c) = scope (choose p a c)
 close (while p a) = scope (while p a)
 close (scope a) = scope (scope a)
 close (thrice c) = scope (thrice c)
+close (fit p m f) = scope (fit p m f)
 
 abbrev pub chain : Res → Res → Rule → Res
 chain (pass m) y b = before m y
@@ -92,6 +93,7 @@ first ask (choose p a b) = cond (ask p) (first ask a) (first ask b)
 first ask (while p a) = cond (ask p) (chain (first ask a) (pass none) (while p a)) (pass none)
 first ask (scope a) = inner (first ask a)
 first ask (thrice c) = act none (put (λ t. c)) (seq (take c) (take c))
+first ask (fit p m f) = act m (put f) skip
 
 abbrev pub does : List ℕ → Act → Parse → Parse
 does text (put f) s = pushOf text (f (tokenAt text (s .at))) s
@@ -118,6 +120,7 @@ run-join (choose p a c) b text s = refl
 run-join (while p a) b text s = refl
 run-join (scope a) b text s = refl
 run-join (thrice c) b text s = refl
+run-join (fit p m f) b text s = refl
 
 resume-same : (s : Parse) → goOn (s .flow) ≡ s .flow → resumedOf s ≡ s
 resume-same s e = ap (λ f. withFlow f s) e
@@ -169,6 +172,7 @@ run-close (choose p a c) text q n = scope-any (choose p a c) text q n
 run-close (while p a) text q n = scope-any (while p a) text q n
 run-close (scope a) text q n = scope-any (scope a) text q n
 run-close (thrice c) text q n = scope-any (thrice c) text q n
+run-close (fit p m f) text q n = scope-any (fit p m f) text q n
 
 before-claim : (text : List ℕ) (m : Marks) (s q : Parse) (y : Res) → Claim text y (marked text m s) q → Claim text (before m y) s q
 unfolding Claim
@@ -194,7 +198,8 @@ inner-claim text s q (pass m) g e = ap resumedOf e ∙ resume-same (marked text 
 inner-claim text s q (halt m) g e = ap resumedOf e ∙ ap (λ f. withFlow f (marked text m s)) (sym (going-flow (s .flow) g))
 inner-claim text s q (act m x k) g e = ap resumedOf e ∙ sym (run-close k text (does text x (marked text m s)) (does-nostop text x (marked text m s) g))
 
--- no end of the text is passed over within a kinzi that is reached at this token: the one place where crate mode is no table
+-- no end of the text is passed over within a kinzi that is reached at this token, and no `fit` stops before it: the one place where crate
+-- mode is no table, and the one where whole mode is none
 unfoldable pub Calm : List ℕ → (Test → Bool) → Parse → Rule → Type 0
 Calm text ask s skip = Unit {0}
 Calm text ask s stop = Unit {0}
@@ -206,6 +211,7 @@ Calm text ask s (choose p a b) = (ask p ≡ true → Calm text ask s a) × (ask 
 Calm text ask s (while p a) = Calm text ask s a
 Calm text ask s (scope a) = Calm text ask s a
 Calm text ask s (thrice c) = (m : Marks) → retriedOf (thriceOf text c (marked text m s)) ≡ thriceOf text c (marked text m s)
+Calm text ask s (fit p m f) = crowded text p s ≡ false
 
 calm-marked : (text : List ℕ) (ask : Test → Bool) (s : Parse) (m : Marks) (r : Rule) → Calm text ask s r → Calm text ask (marked text m s) r
 unfolding Calm
@@ -219,37 +225,48 @@ calm-marked text ask s m (choose p a b) c = ((λ h. calm-marked text ask s m a (
 calm-marked text ask s m (while p a) c = calm-marked text ask s m a c
 calm-marked text ask s m (scope a) c = calm-marked text ask s m a c
 calm-marked text ask s m (thrice x) c = λ u. c (λ t i. u t (m t i))
+calm-marked text ask s m (fit p u f) c = c
 
--- a rule with no kinzi in it is calm
-pub calm-free : (text : List ℕ) (ask : Test → Bool) (s : Parse) (r : Rule) → free r ≡ true → Calm text ask s r
-unfolding Calm
-calm-free text ask s skip h = tt
-calm-free text ask s stop h = tt
-calm-free text ask s (push f) h = tt
-calm-free text ask s note h = tt
-calm-free text ask s (mark f) h = tt
-calm-free text ask s (seq a b) h = let z = both-of (free a) (free b) h in (calm-free text ask s a (z .0), calm-free text ask s b (z .1))
-calm-free text ask s (choose p a b) h = let z = both-of (free a) (free b) h in ((λ e. calm-free text ask s a (z .0)), (λ e. calm-free text ask s b (z .1)))
-calm-free text ask s (while p a) h = calm-free text ask s a h
-calm-free text ask s (scope a) h = calm-free text ask s a h
-calm-free text ask s (thrice c) h = absurd (false≢true h)
+-- a rule with no `fit` in it, and with a kinzi only where that is allowed
+abbrev pub spare : Bool → Rule → Bool
+spare kinzi skip = true
+spare kinzi stop = true
+spare kinzi (push f) = true
+spare kinzi note = true
+spare kinzi (mark f) = true
+spare kinzi (seq a b) = cond (spare kinzi a) (spare kinzi b) false
+spare kinzi (choose p a b) = cond (spare kinzi a) (spare kinzi b) false
+spare kinzi (while p a) = spare kinzi a
+spare kinzi (scope a) = spare kinzi a
+spare kinzi (thrice c) = kinzi
+spare kinzi (fit p m f) = false
 
--- in whole mode every rule is calm
-pub calm-whole : (text : List ℕ) (ask : Test → Bool) (s : Parse) (r : Rule) → s .mode ≡ Whole → Calm text ask s r
-unfolding Calm
-calm-whole text ask s skip w = tt
-calm-whole text ask s stop w = tt
-calm-whole text ask s (push f) w = tt
-calm-whole text ask s note w = tt
-calm-whole text ask s (mark f) w = tt
-calm-whole text ask s (seq a b) w = (calm-whole text ask s a w, calm-whole text ask s b w)
-calm-whole text ask s (choose p a b) w = ((λ e. calm-whole text ask s a w), (λ e. calm-whole text ask s b w))
-calm-whole text ask s (while p a) w = calm-whole text ask s a w
-calm-whole text ask s (scope a) w = calm-whole text ask s a w
-calm-whole text ask s (thrice c) w = λ m. retried-whole (thriceOf text c (marked text m s)) (thrice-mode text c (marked text m s) ∙ w)
-  where
-    retried-whole : (q : Parse) → q .mode ≡ Whole → retriedOf q ≡ q
-    retried-whole q e = ap (λ x. cond (passesEnd x (q .flow) (q .again)) (withFlow GoOn (withAgain q)) q) e
+-- such a rule is calm, with a kinzi in whole mode
+module _ (text : List ℕ) (ask : Test → Bool) (s : Parse) (kinzi : Bool) (whole : kinzi ≡ true → s .mode ≡ Whole) where
+  calm-spare : (r : Rule) → spare kinzi r ≡ true → Calm text ask s r
+  unfolding Calm
+  calm-spare skip h = tt
+  calm-spare stop h = tt
+  calm-spare (push f) h = tt
+  calm-spare note h = tt
+  calm-spare (mark f) h = tt
+  calm-spare (seq a b) h = let z = both-of (spare kinzi a) (spare kinzi b) h in (calm-spare a (z .0), calm-spare b (z .1))
+  calm-spare (choose p a b) h = let z = both-of (spare kinzi a) (spare kinzi b) h in ((λ e. calm-spare a (z .0)), (λ e. calm-spare b (z .1)))
+  calm-spare (while p a) h = calm-spare a h
+  calm-spare (scope a) h = calm-spare a h
+  calm-spare (thrice c) h = λ m. retried-whole (thriceOf text c (marked text m s)) (thrice-mode text c (marked text m s) ∙ whole h)
+    where
+      retried-whole : (q : Parse) → q .mode ≡ Whole → retriedOf q ≡ q
+      retried-whole q e = ap (λ x. cond (passesEnd x (q .flow) (q .again)) (withFlow GoOn (withAgain q)) q) e
+  calm-spare (fit p m f) h = absurd (false≢true h)
+
+-- a rule with neither is calm
+pub calm-free : (text : List ℕ) (ask : Test → Bool) (s : Parse) (r : Rule) → spare false r ≡ true → Calm text ask s r
+calm-free text ask s r h = calm-spare text ask s false (λ e. absurd (false≢true e)) r h
+
+-- in whole mode one with no `fit` is
+pub calm-whole : (text : List ℕ) (ask : Test → Bool) (s : Parse) (r : Rule) → s .mode ≡ Whole → spare true r ≡ true → Calm text ask s r
+calm-whole text ask s r w h = calm-spare text ask s true (λ e. w) r h
 
 run-thrice : (c : Shape) (text : List ℕ) (s : Parse) → going s ≡ true → run (thrice c) text s ≡ retriedOf (thriceOf text c s)
 unfolding run
@@ -275,6 +292,7 @@ behind text (choose p a b) P i = Inside text i
 behind text (while p a) P i = Inside text i
 behind text (scope a) P i = Inside text i
 behind text (thrice c) P i = Inside text i
+behind text (fit p m f) P i = Inside text i
 
 behind-in : (text : List ℕ) (a : Rule) (P : ℕ → Type 0) (i : ℕ) → Inside text i → P i → behind text a P i
 behind-in text skip P i h p = h
@@ -287,6 +305,7 @@ behind-in text (choose q a b) P i h p = h
 behind-in text (while q a) P i h p = h
 behind-in text (scope a) P i h p = h
 behind-in text (thrice c) P i h p = h
+behind-in text (fit q m f) P i h p = h
 
 -- where P holds of the place the tests on the way are answered rightly, and the classes are those of the sample token; each loop's body moves
 module _ (text : List ℕ) (answer : ℕ → Test → Bool) (sample : ℕ → ℕ) where
@@ -301,6 +320,7 @@ module _ (text : List ℕ) (answer : ℕ → Test → Bool) (sample : ℕ → �
   Fine P (while p a) = ((i : ℕ) → Inside text i → answer i p ≡ p text i) × ((moves a ≡ true) × Fine (λ i. Inside text i × (p text i ≡ true)) a)
   Fine P (scope a) = Fine P a
   Fine P (thrice c) = Unit {0}
+  Fine P (fit p m f) = (i : ℕ) → P i → f (tokenAt text i) ≡ f (sample i)
 
   holds-here : (p : Test) (s : Parse) (b : Bool) → going s ≡ true → p text (s .at) ≡ b → holds text p s ≡ b
   holds-here p s b g e = rw g e
@@ -330,6 +350,7 @@ module _ (text : List ℕ) (answer : ℕ → Test → Bool) (sample : ℕ → �
       rw (e, run-stays p a text s (holds-here p s false g t)) refl)
   first-run P (scope a) s g i h k f = rw (run-scope a text s g) (inner-claim text s (run a text s) (first (answer (s .at)) a) g (first-run P a s g i h k f))
   first-run P (thrice c) s g i h k f = run-thrice c text s g ∙ k none ∙ thrice-takes c text s g
+  first-run P (fit p m c) s g i h k f = rw (g, k)
 
   -- the class at this place is the sample's, and the rule that is left is fine everywhere
   unfoldable pub FineRes : ℕ → Res → Type 0
@@ -350,6 +371,7 @@ module _ (text : List ℕ) (answer : ℕ → Test → Bool) (sample : ℕ → �
   fine-join (while p a) b f h = (f, h)
   fine-join (scope a) b f h = (f, h)
   fine-join (thrice c) b f h = (f, h)
+  fine-join (fit p m c) b f h = (f, h)
 
   fine-close : (a : Rule) → Fine (Inside text) a → Fine (Inside text) (close a)
   unfolding Fine
@@ -363,6 +385,7 @@ module _ (text : List ℕ) (answer : ℕ → Test → Bool) (sample : ℕ → �
   fine-close (while p a) f = f
   fine-close (scope a) f = f
   fine-close (thrice c) f = f
+  fine-close (fit p m c) f = f
 
   fine-before : (i : ℕ) (m : Marks) (y : Res) → FineRes i y → FineRes i (before m y)
   unfolding FineRes
@@ -401,6 +424,7 @@ module _ (text : List ℕ) (answer : ℕ → Test → Bool) (sample : ℕ → �
   behind-acts P ask (while p a) b f x = f
   behind-acts P ask (scope a) b f x = f
   behind-acts P ask (thrice c) b f x = f
+  behind-acts P ask (fit p m c) b f x = f
 
   pub fine-first : (P : ℕ → Type 0) (i : ℕ) → Inside text i → P i → (r : Rule) → Fine P r → FineRes i (first (answer i) r)
   unfolding Fine FineRes
@@ -419,3 +443,4 @@ module _ (text : List ℕ) (answer : ℕ → Test → Bool) (sample : ℕ → �
       (λ e. tt)
   fine-first P i n h (scope a) f = fine-inner i (first (answer i) a) (fine-first P i n h a f)
   fine-first P i n h (thrice c) f = (refl, ((λ j m. refl), (λ j m. refl)))
+  fine-first P i n h (fit p m c) f = (f i h, tt)

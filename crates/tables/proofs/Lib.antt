@@ -6,6 +6,7 @@ pub mod ComplexRules
 pub mod KhmerRules
 pub mod EmojiFine
 pub mod SimpleFine
+pub mod SimpleRoom
 pub mod OtherFine
 pub mod MyanmarFine
 pub mod UseFine

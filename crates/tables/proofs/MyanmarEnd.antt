@@ -14,11 +14,10 @@ use Rattle.records.specs.declared.Parser.the-variants.{Myanmar}
 use Rattle.parse.specs.declared.Parse.{Parse}
 use Rattle.parse.specs.State.{begin}
 use Rattle.parse.specs.Rule.{Test, isEmoji, is}
-use Rattle.parse.specs.Shared.{emojis, otherArm}
-use Rattle.myanmar.specs.Grammar.{cluster, isAlone, kinzi, syllable, isKinzi}
-use Rattle.myanmar.proofs.Repeat.{emojis-free, other-free, syllable-free}
+use Rattle.parse.specs.Shared.{emojis, emojiTurn, emojiExtension, emojiMark, newline, otherArm}
+use Rattle.myanmar.specs.Grammar.{cluster, isAlone, kinzi, syllable, base, finals, vowels, medials, pwoToneMark, postBaseVowel, stacked, acceptWithAs, isKinzi}
 use Rattle.tables.specs.Symbols.{endsAt, myanmarIn, myanmarSymbol, Regular}
-use Rattle.residual.proofs.Residual.{Inside, Calm, calm-free, calm-whole}
+use Rattle.residual.proofs.Residual.{Inside, Calm, spare, calm-free, calm-whole}
 use Rattle.tables.proofs.Kinzi.{kinzi-calm}
 use Rattle.tables.proofs.MyanmarFine as fine
 
@@ -38,16 +37,33 @@ module _ (text : List ℕ) (mode : Mode) (regular : Regular Myanmar text) (i : �
       symbol : myanmarSymbol mode text i ≡ cond (endsAt mode text i) 33 32
       symbol = rw (e, o, z)
 
+-- no rule has a `fit` in it
+emojis-spare : spare false emojis ≡ true
+unfolding emojis emojiTurn emojiExtension emojiMark
+emojis-spare = refl
+
+other-spare : spare false otherArm ≡ true
+unfolding otherArm newline
+other-spare = refl
+
+syllable-spare : spare false syllable ≡ true
+unfolding syllable base finals vowels medials pwoToneMark postBaseVowel stacked acceptWithAs
+syllable-spare = refl
+
+cluster-spare : spare true cluster ≡ true
+unfolding cluster kinzi emojis emojiTurn emojiExtension emojiMark otherArm newline syllable base finals vowels medials pwoToneMark postBaseVowel stacked acceptWithAs
+cluster-spare = refl
+
 pub calm-myanmar : (text : List ℕ) (mode : Mode) (regular : Regular Myanmar text) (i : ℕ) → Inside text i → eqb (myanmarSymbol mode text i) 33 ≡ false → (j : Bool)
     → Calm text (fine.answer mode text regular i) (begin (record { at = i }) mode j) cluster
 unfolding Calm cluster isAlone kinzi endsAt
-calm-myanmar text Whole regular i h stays j = calm-whole text (fine.answer Whole text regular i) (begin (record { at = i }) Whole j) cluster refl
+calm-myanmar text Whole regular i h stays j = calm-whole text (fine.answer Whole text regular i) (begin (record { at = i }) Whole j) cluster refl cluster-spare
 calm-myanmar text Crate regular i h stays j =
     let s : Parse = begin (record { at = i }) Crate j in
     let ask : Test → Bool = fine.answer Crate text regular i in (
-      λ e. calm-free text ask s emojis emojis-free,
+      λ e. calm-free text ask s emojis emojis-spare,
       λ e. (
-        λ o. calm-free text ask s otherArm other-free,
+        λ o. calm-free text ask s otherArm other-spare,
         λ o. (
           λ a. tt,
           λ a. (
@@ -60,7 +76,7 @@ calm-myanmar text Crate regular i h stays j =
                   kinzi-calm text i Crate j Kinzi z′ (ltb-true (i + 3) (length text) (w .0)) (w .1),
               λ z. tt,
             ),
-            calm-free text ask s syllable syllable-free,
+            calm-free text ask s syllable syllable-spare,
           ),
         ),
       ),

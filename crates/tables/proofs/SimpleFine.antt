@@ -13,7 +13,7 @@ use Rattle.classes.specs.Scalar.{ZWNJ, VS15, VS16}
 use Rattle.token.specs.Token.{scalarOf, kindOf, breakOf, emojiOf, selectorOf}
 use Rattle.parse.specs.State.{tokenAt}
 use Rattle.parse.specs.Rule.{Test, is, isBreak, isScalar, isEmoji, isSelector, oneOf}
-use Rattle.parse.specs.Shared.{emojis, newline}
+use Rattle.parse.specs.Shared.{emojis, newline, newlineWith}
 use Rattle.simple.specs.Grammar.{cluster, start, control, syllable, leading, vowel, trailing, other, isExtension, extension, extend, combining}
 use Rattle.tables.specs.Symbols.{special, simpleIn, simpleSymbol, simpleRegular, Regular}
 use Rattle.records.specs.declared.Parser.the-variants.{Simple}
@@ -195,7 +195,7 @@ module _ (text : List ℕ) (regular : Regular Simple text) where
 
   module _ (P : ℕ → Type 0) (into : (i : ℕ) → P i → Inside text i) where
     fine-control : Fine text answer sample P control
-    unfolding Fine control newline
+    unfolding Fine control newline newlineWith
     fine-control = (
       λ i h. good-is CN i (into i h),
       (
@@ -207,7 +207,7 @@ module _ (text : List ℕ) (regular : Regular Simple text) where
             (
               λ i h. good-is CR i (into i (h .0 .0)),
               (
-                ((tt, λ i h. refl), (λ i h. good-is LF i h, (λ i h. refl, tt))),
+                (λ i h. refl, (λ i h. good-is LF i h, (λ i h. refl, tt))),
                 fine-syllable _ (λ i h. into i (h .0 .0 .0)),
               ),
             ),

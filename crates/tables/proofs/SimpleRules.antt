@@ -1,20 +1,21 @@
 -- Written by tools/tables: the rules that can be left within a cluster of the simple grammar, and that its table is theirs.
 -- Assumes nothing.
 use Prim.Native.Nat.{ℕ, zero, suc, _/_, _%_, _<_}
-use mathlib.Core.Path.{_≡_, refl, _∙_, ap}
-use mathlib.Core.Bool.{Bool, true}
+use mathlib.Core.Path.{_≡_, refl}
+use mathlib.Core.Bool.{Bool, true, false, cond}
 use mathlib.Core.List.{List, [], _∷_, map}
+use lib.Dec.{eqb}
 use lib.ListN.{getD}
 use Rattle.classes.specs.declared.Shape.the-variants.{Base, Mark, Control, Vs, Zwnj, Zwj}
 use Rattle.parse.specs.declared.Emoji.the-variants.{Default, Text, Color}
 use Rattle.parse.specs.declared.Space.the-variants.{Newline}
-use Rattle.parse.specs.Rule.{Test, Rule, skip, stop, push, note, mark, seq, choose, while, scope, is, isBreak, isScalar, isEmoji, isSelector, oneOf, setBroken, setEmoji, setSpace, setSpaceFromChar, forceNormalize}
-use Rattle.parse.specs.Shared.{emojiMark, emojiExtension, emojiTurn, emojis, newline}
+use Rattle.parse.specs.Rule.{Test, Rule, skip, stop, push, note, mark, seq, choose, while, scope, fit, is, nextIs, isBreak, isScalar, isEmoji, isSelector, oneOf, setBroken, setEmoji, setSpace, setSpaceFromChar, forceNormalize}
+use Rattle.parse.specs.Shared.{emojiMark, emojiExtension, emojiTurn, emojis, newline, newlineWith}
 use Rattle.simple.specs.Grammar.{isExtension, combining, extend, extension, leading, vowel, trailing, other, syllable, control, start, cluster}
 use Rattle.tables.specs.SimpleTable.{simpleTable}
 use Rattle.parse.proofs.Free.{free}
-use Rattle.residual.proofs.Residual.{first}
-use Rattle.tables.proofs.Cells.{Cell, cellOf, fresh, orFresh, decodedBy, okay, tabulate, tab-at, map-at, true-at}
+use Rattle.residual.proofs.Residual.{spare, first}
+use Rattle.tables.proofs.Cells.{Cell, cellOf, fresh, orFresh, decodedBy, okay, tabulate, tab-at, agree}
 
 unfoldable pub r0 : Rule
 r0 = push (λ t. Zwnj)
@@ -134,76 +135,79 @@ unfoldable pub r38 : Rule
 r38 = seq r37 r11
 
 unfoldable pub r39 : Rule
-r39 = seq r38 r12
+r39 = fit (nextIs 3) (setSpace Newline) (λ t. Control)
 
 unfoldable pub r40 : Rule
-r40 = seq r14 r15
+r40 = seq r39 r12
 
 unfoldable pub r41 : Rule
-r41 = seq r14 r17
+r41 = seq r14 r15
 
 unfoldable pub r42 : Rule
-r42 = seq r14 r19
+r42 = seq r14 r17
 
 unfoldable pub r43 : Rule
-r43 = choose (is 9) r14 skip
+r43 = seq r14 r19
 
 unfoldable pub r44 : Rule
-r44 = mark setBroken
+r44 = choose (is 9) r14 skip
 
 unfoldable pub r45 : Rule
-r45 = mark setSpaceFromChar
+r45 = mark setBroken
 
 unfoldable pub r46 : Rule
-r46 = seq r45 r14
+r46 = mark setSpaceFromChar
 
 unfoldable pub r47 : Rule
-r47 = choose (oneOf (10 ∷ 11 ∷ 12 ∷ [])) r44 r46
+r47 = seq r46 r14
 
 unfoldable pub r48 : Rule
-r48 = choose (is 9) r43 r47
+r48 = choose (oneOf (10 ∷ 11 ∷ 12 ∷ [])) r45 r47
 
 unfoldable pub r49 : Rule
-r49 = choose (oneOf (8 ∷ 6 ∷ [])) r42 r48
+r49 = choose (is 9) r44 r48
 
 unfoldable pub r50 : Rule
-r50 = choose (oneOf (7 ∷ 5 ∷ [])) r41 r49
+r50 = choose (oneOf (8 ∷ 6 ∷ [])) r43 r49
 
 unfoldable pub r51 : Rule
-r51 = choose (is 4) r40 r50
+r51 = choose (oneOf (7 ∷ 5 ∷ [])) r42 r50
 
 unfoldable pub r52 : Rule
-r52 = choose (is 2) r39 r51
+r52 = choose (is 4) r41 r51
 
 unfoldable pub r53 : Rule
-r53 = choose (is 3) r38 r52
+r53 = choose (is 2) r40 r52
 
 unfoldable pub r54 : Rule
-r54 = choose (is 1) r11 r53
+r54 = choose (is 3) r38 r53
 
 unfoldable pub r55 : Rule
-r55 = choose isEmoji r36 r54
+r55 = choose (is 1) r11 r54
 
 unfoldable pub r56 : Rule
-r56 = seq r55 r10
+r56 = choose isEmoji r36 r55
 
 unfoldable pub r57 : Rule
-r57 = seq r21 r56
+r57 = seq r56 r10
 
 unfoldable pub r58 : Rule
-r58 = seq r32 r34
+r58 = seq r21 r57
 
 unfoldable pub r59 : Rule
-r59 = scope r58
+r59 = seq r32 r34
 
 unfoldable pub r60 : Rule
-r60 = seq r59 r10
+r60 = scope r59
 
 unfoldable pub r61 : Rule
-r61 = seq r35 r10
+r61 = seq r60 r10
+
+unfoldable pub r62 : Rule
+r62 = seq r35 r10
 
 abbrev pub rules : List Rule
-rules = r10 ∷ r13 ∷ r16 ∷ r18 ∷ r20 ∷ r57 ∷ r60 ∷ r61 ∷ []
+rules = r10 ∷ r13 ∷ r16 ∷ r18 ∷ r20 ∷ r58 ∷ r61 ∷ r62 ∷ []
 
 -- a token of each symbol
 abbrev samples : List ℕ
@@ -232,7 +236,7 @@ expected j (suc r) = orFresh (cellIn j (getD rules r skip)) (cellIn j cluster)
 
 -- one computed test over the whole table
 right : tabulate (λ j. expected (j / 9) (j % 9)) 0 378 ≡ map (decodedBy rules) simpleTable
-unfolding simpleTable cluster start emojis emojiTurn emojiExtension emojiMark control newline syllable leading oneOf vowel trailing other isExtension extension extend combining r0 r1 r2 r3 r4 r5 r6 r7 r8 r9 r10 r11 r12 r13 r14 r15 r16 r17 r18 r19 r20 r21 r22 r23 r24 r25 r26 r27 r28 r29 r30 r31 r32 r33 r34 r35 r36 r37 r38 r39 r40 r41 r42 r43 r44 r45 r46 r47 r48 r49 r50 r51 r52 r53 r54 r55 r56 r57 r58 r59 r60 r61
+unfolding simpleTable cluster start emojis emojiTurn emojiExtension emojiMark control newline newlineWith syllable leading oneOf vowel trailing other isExtension extension extend combining r0 r1 r2 r3 r4 r5 r6 r7 r8 r9 r10 r11 r12 r13 r14 r15 r16 r17 r18 r19 r20 r21 r22 r23 r24 r25 r26 r27 r28 r29 r30 r31 r32 r33 r34 r35 r36 r37 r38 r39 r40 r41 r42 r43 r44 r45 r46 r47 r48 r49 r50 r51 r52 r53 r54 r55 r56 r57 r58 r59 r60 r61 r62
 right = refl
 
 pub right-at : (j : ℕ) → j < 378 → expected (j / 9) (j % 9) ≡ decodedBy rules (getD simpleTable j 0)
@@ -246,15 +250,17 @@ pub okay-at : (j : ℕ) → j < 378 → true ≡ okay 9 (getD simpleTable j 0)
 okay-at j h = tab-at (λ j. true) (okay 9) 378 simpleTable all-okay j h
 
 pub cluster-free : free cluster ≡ true
-unfolding cluster start emojis emojiTurn emojiExtension emojiMark control newline syllable leading oneOf vowel trailing other isExtension extension extend combining
+unfolding cluster start emojis emojiTurn emojiExtension emojiMark control newline newlineWith syllable leading oneOf vowel trailing other isExtension extension extend combining
 cluster-free = refl
 
-all-free : map free rules ≡ true ∷ true ∷ true ∷ true ∷ true ∷ true ∷ true ∷ true ∷ []
-unfolding r0 r1 r2 r3 r4 r5 r6 r7 r8 r9 r10 r11 r12 r13 r14 r15 r16 r17 r18 r19 r20 r21 r22 r23 r24 r25 r26 r27 r28 r29 r30 r31 r32 r33 r34 r35 r36 r37 r38 r39 r40 r41 r42 r43 r44 r45 r46 r47 r48 r49 r50 r51 r52 r53 r54 r55 r56 r57 r58 r59 r60 r61
-all-free = refl
+-- the rule that is left behind prepended characters, in which a `fit` may stop: the grammar itself
+pub fitting-is : getD rules 5 skip ≡ cluster
+unfolding cluster start emojis emojiTurn emojiExtension emojiMark control newline newlineWith syllable leading oneOf vowel trailing other isExtension extension extend combining r0 r1 r2 r3 r4 r5 r6 r7 r8 r9 r10 r11 r12 r13 r14 r15 r16 r17 r18 r19 r20 r21 r22 r23 r24 r25 r26 r27 r28 r29 r30 r31 r32 r33 r34 r35 r36 r37 r38 r39 r40 r41 r42 r43 r44 r45 r46 r47 r48 r49 r50 r51 r52 r53 r54 r55 r56 r57 r58 r59 r60 r61 r62
+fitting-is = refl
 
-pub free-at : (j : ℕ) → free (getD rules j skip) ≡ true
-free-at j = map-at free rules skip j ∙ ap (λ bs. getD bs j true) all-free ∙ all-true j
-  where
-    all-true : (j : ℕ) → getD (true ∷ true ∷ true ∷ true ∷ true ∷ true ∷ true ∷ true ∷ []) j true ≡ true
-    all-true j = true-at (true ∷ true ∷ true ∷ true ∷ true ∷ true ∷ true ∷ true ∷ []) refl j
+all-spare : tabulate (λ j. cond (eqb j 5) true (spare false (getD rules j skip))) 0 8 ≡ tabulate (λ j. true) 0 8
+unfolding r0 r1 r2 r3 r4 r5 r6 r7 r8 r9 r10 r11 r12 r13 r14 r15 r16 r17 r18 r19 r20 r21 r22 r23 r24 r25 r26 r27 r28 r29 r30 r31 r32 r33 r34 r35 r36 r37 r38 r39 r40 r41 r42 r43 r44 r45 r46 r47 r48 r49 r50 r51 r52 r53 r54 r55 r56 r57 r58 r59 r60 r61 r62
+all-spare = refl
+
+pub spare-at : (j : ℕ) → j < 8 → cond (eqb j 5) true (spare false (getD rules j skip)) ≡ true
+spare-at j h = agree (λ j. cond (eqb j 5) true (spare false (getD rules j skip))) (λ j. true) 8 all-spare j h

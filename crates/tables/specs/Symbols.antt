@@ -56,6 +56,10 @@ simpleIn kind emoji rare = cond (eqb rare 0) (kind + 14 * emoji) (cond (eqb kind
 unfoldable pub simpleSymbol : ℕ → ℕ
 simpleSymbol t = simpleIn (kindOf t) (emojiOf t) (selectorOf t + 2 * special (scalarOf t))
 
+-- the row behind prepended characters, from which a CR may be left to the next cluster
+abbrev pub prependedRow : ℕ
+prependedRow = 6
+
 -- Myanmar: 26 classes, an emoji, five of class O, and a kinzi that the table takes and one that it leaves
 
 abbrev pub otherSymbol : ℕ → ℕ
