@@ -14,9 +14,9 @@ import unicode
 
 KINDS = "SMCWwsmclnLF"
 CHUNK = 20_000
-CLUSTER_PARTS = ("S", "M", "C", "exhaustive-S", "exhaustive-M", "exhaustive-C", "exhaustive-partless-C", "ordered-M", "ordered-C",
-                 "places")
-RUN_PARTS = ("runs-s", "runs-m", "runs-c", "runs-khmer", "split-runs", "damaged-runs")
+CLUSTER_PARTS = ("S", "M", "C", "exhaustive-S", "exhaustive-M", "exhaustive-C", "exhaustive-partless-C", "newlines-S",
+                 "ordered-M", "ordered-C", "places")
+RUN_PARTS = ("runs-s", "runs-m", "runs-c", "runs-khmer", "newline-runs", "split-runs", "damaged-runs")
 READ_STRIDE = 8  # the Rust answers every full run in crate mode, the reading one in so many: it is slow
 
 

@@ -378,6 +378,24 @@ MYANMAR_PREFIXES = ["C", "IV VS", "D H IV VS", "DB VPst", "C PT"]
 USE_PREFIXES = ["B", "GB VS", "R B H B", "CS B SUB", "B H B VS", "N HN N", "S"]
 
 
+def newline_texts():
+    """Prepended characters before CR and LF, about the 31 at which whole mode keeps these two together; each with the emoji mark too, and
+    other records in their places."""
+    other, cr, lf, mark, prepended = (SIMPLE_KINDS[number] for number in (0, 2, 3, 10, 13))
+    firsts = [cr, record(KIND_SCALARS["CR"], "CR", simple=1), other]
+    seconds = [[], [lf], [record(KIND_SCALARS["LF"], "LF", simple=1)], [other], [mark], [cr, lf]]
+    for count, first, second, tail in itertools.product((0, 29, 30, 31, 32, 33, 62, 63), firsts, seconds, ([], [lf], [mark])):
+        yield [prepended] * count + [first] + second + tail
+
+
+def simple_newlines():
+    return (case("S", 0, text) for text in newline_texts())
+
+
+def newline_runs():
+    return (case("s", 2 * len(text), text) for text in newline_texts())
+
+
 def ordered(kind, by_kind, order, prefixes, joiners):
     """A syllable's start and at most two more of its members, in the grammar's order; with
     joiners between them the cluster is full somewhere behind."""
@@ -899,6 +917,7 @@ RANDOM = {"S": random_simple, "M": random_myanmar, "C": random_complex, "W": ran
           **line_cases.RANDOM, **property_cases.RANDOM}
 FIXED = {"exhaustive-S": exhaustive_simple, "exhaustive-M": exhaustive_myanmar, "exhaustive-C": exhaustive_complex,
          "exhaustive-partless-C": exhaustive_without_parts,
+         "newlines-S": simple_newlines, "newline-runs": newline_runs,
          "ordered-M": ordered_myanmar, "ordered-C": ordered_complex, "places": exhaustive_places,
          "steps": word_steps, "exhaustive-W": exhaustive_words, "refusals": refusals,
          "long": long_refusals, "layout": not_of_layout, "split-runs": split_runs,

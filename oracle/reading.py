@@ -240,6 +240,13 @@ class Call:
             # room (SCOPE 6.2)
             self.push(OTHER)
 
+    def ends_before(self, kind):
+        """In whole mode a token that would be the 32nd is left to the next call where a token of
+        this kind follows it, which has no room then (SCOPE 6.9)."""
+        following = self.tokens[self.at + 1:self.at + 2]
+        if self.mode == WHOLE and len(self.pushed) == CLUSTER_SIZE - 1 and [token.kind for token in following] == [kind]:
+            raise CallEnds
+
     def ignoring_failure(self, action, *arguments):
         """Crate mode goes on after a failure in a few places; whole mode never does: there the
         end of the text ends the call (SCOPE 6.9)."""
@@ -329,6 +336,7 @@ def simple_core(call):
         call.space = "newline"
         call.push(CONTROL)
     elif kind == "CR":
+        call.ends_before("LF")
         call.space = "newline"
         call.push(CONTROL)
         call.accept("LF", CONTROL)

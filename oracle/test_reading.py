@@ -78,6 +78,19 @@ class Corners(unittest.TestCase):
         self.assertEqual(len(clusters(case("S", 0, [CR, JOINER, LF]))), 2)
         self.assertEqual(len(clusters(case("C", 0, [CR, generate.STANDING_ALONE[2]]))), 1)
 
+    def test_newline_behind_prepended_characters(self):
+        prepended, cr, lf = (generate.SIMPLE_KINDS[number] for number in (13, 2, 3))
+        marked = {name: record(generate.KIND_SCALARS[name], name, simple=1) for name in ("CR", "LF")}
+        for count, behind, lengths in (
+            (31, [cr, lf], [31, 2]), (30, [cr, lf], [32]), (32, [cr, lf], [32, 2]), (31, [cr], [32]), (31, [cr, cr], [32, 1]),
+            (31, [marked["CR"], lf], [32, 1]), (31, [cr, marked["LF"]], [31, 2]), (0, [cr, lf], [2]),
+        ):
+            text = whole(case("S", 0, [prepended] * count + behind))
+            self.assertEqual([len(shapes) for shapes in classes(text)], lengths)
+        crate = case("S", 0, [prepended] * 31 + [cr, lf])
+        self.assertEqual([(len(shapes), signs) for shapes, signs in clusters(crate)], [(32, "nN.."), (2, "nN..")])
+        self.assertEqual([(len(shapes), signs) for shapes, signs in clusters(whole(crate))], [(31, "n-.."), (2, "nN..")])
+
     def test_reph_swallows_what_is_no_base(self):
         self.assertEqual(clusters(case("C", 0, [USE_BY_KIND["R"], LF])), [([reading.REPH, reading.OTHER], "n-B.")])
         self.assertEqual(clusters(case("C", 0, [USE_BY_KIND["R"]])), [([reading.REPH], "n-..")])

@@ -67,5 +67,13 @@ aloneSign =
     (call (char 0x1780 Base 0 ∷ []) noInfo 1 ∷ [])
     (call (char 0x1780 Base 0 ∷ char 0x17BE Other 1 ∷ []) noInfo 2 ∷ [])
 
+-- CR and LF behind 31 prepended characters: crate mode has CR twice, whole mode leaves it to LF's cluster (6.9)
+abbrev pub newlineKept : Case
+newlineKept =
+    let newline = char Scalar.CR Control 31 ∷ char Scalar.LF Control 32 ∷ [] in
+    clusters Simple (replicate 31 (character 0x600 Break.PP) ++ (character Scalar.CR Break.CR ∷ character Scalar.LF Break.LF ∷ [])) []
+    (call (chars 31 0x600 Base 0 ++ (char Scalar.CR Control 31 ∷ [])) (spaced Newline) 31 ∷ call newline (spaced Newline) 33 ∷ [])
+    (call (chars 31 0x600 Base 0) noInfo 31 ∷ call newline (spaced Newline) 33 ∷ [])
+
 abbrev pub readings : List Case
-readings = joinerBegins ∷ viramaOfC ∷ joinerOfC ∷ joinerParts ∷ rephTakesNewline ∷ rephAlone ∷ prependedMark ∷ aloneGiven ∷ aloneSign ∷ []
+readings = joinerBegins ∷ viramaOfC ∷ joinerOfC ∷ joinerParts ∷ rephTakesNewline ∷ rephAlone ∷ prependedMark ∷ aloneGiven ∷ aloneSign ∷ newlineKept ∷ []

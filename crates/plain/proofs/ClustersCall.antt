@@ -27,9 +27,11 @@ use Rattle.parse.specs.declared.Emoji.the-variants.{Default, Text, Color}
 use Rattle.parse.specs.State.{tokenAt, begin}
 use Rattle.parse.specs.Rule.{skip, stop, note, mark, seq, choose, while, scope, run, take, manyAs, acceptAs, is, isBreak, isScalar, isEmoji, isSelector, oneOf, setBroken, setEmoji, setSpace, setSpaceFromChar, forceNormalize}
 use Rattle.parse.specs.Shared.{emojiMark, emojiExtension, emojiTurn, emojis, newline}
-use Rattle.simple.specs.Grammar.{cluster, start, control, syllable, other, isExtension, extension, extend, combining}
+use Rattle.simple.specs.Grammar.{cluster, syllable, other, isExtension, extension, extend, combining}
 use Rattle.uax29.specs.Clusters.{boundaryAt}
 use Rattle.plain.specs.Clusters.{extensions}
+use Rattle.simple.specs.Before.{clusterBefore, startBefore, controlBefore}
+use Rattle.simple.proofs.Moved.{unprepended}
 use Rattle.plain.proofs.ClustersNeighbours.{kind-case, Columns, Calm, P, Z, P-next, Z-next, Z-start, extension-joins, newline-joins, emoji-joins, calm-other, calm-control, calm-extension, calm-start, calm-stopped, calm-joined}
 use Rattle.plain.proofs.ClustersAfter.{Stands, After, seq-after, choose-after, skip-after, mark-after, stop-after, push-after, note-after, while-after, part-after}
 
@@ -232,8 +234,8 @@ module _ (stream breaks marks : List ℕ) (shows : Shows stream breaks marks) (p
         (calm-control breaks marks plain (u .at) LF (in-columns (u .at) (onu .inside)) (eqb-true _ _ lf) (λ x. omega arith) refl refl refl) Control)
         (λ h. skip-after stream b from u onu (subst Quiet (sym i) (quiet-after CR cr refl refl (subst (λ j. eqb (cell breaks j) LF ≡ false) i (sym (kind-is (u .at) (onu .inside) LF) ∙ h)))))
 
-    control-after : Left Quiet Nowhere (run control stream q)
-    unfolding control newline
+    control-after : Left Quiet Nowhere (run controlBefore stream q)
+    unfolding controlBefore newline
     control-after = choose-after stream b from q on (is CN) _ _
         (λ h. taken q on begun Quiet Nowhere (quiet-after CN h refl refl refl) Control)
         (λ h. choose-after stream b from q on (is LF) _ _
@@ -244,19 +246,26 @@ module _ (stream breaks marks : List ℕ) (shows : Shows stream breaks marks) (p
         (newline-after cr) (λ j l y. y))
         (λ cr. syllable-after cr)))
 
-  start-after : (q : Parse) → On q → q .at ≡ from → Left Quiet Nowhere (run start stream q)
-  unfolding start
+  start-after : (q : Parse) → On q → q .at ≡ from → Left Quiet Nowhere (run startBefore stream q)
+  unfolding startBefore
   start-after q on e = choose-after stream b from q on isEmoji _ _
       (λ h. emojis-after q on e (subst (λ j. isEmoji stream j ≡ true) e h)) (λ h. control-after q on e h)
 
-  -- The whole call: it ends at the end of the text, or at a calm place that has no extension.
-  pub call-after : (mode : Mode) → Left Ended Nowhere (run cluster stream (begin (record { at = from }) mode false))
-  unfolding cluster
-  call-after mode =
+  -- no cluster begins with a prepended character, so a call is what it was before CR and LF were kept together at 32
+  call-before : (mode : Mode) → run cluster stream (begin (record { at = from }) mode false) ≡ run clusterBefore stream (begin (record { at = from }) mode false)
+  call-before mode = unprepended stream (begin (record { at = from }) mode false) (never from inside (λ k. eqb k PP) refl refl refl refl refl refl refl) refl
+
+  before-after : (mode : Mode) → Left Ended Nowhere (run clusterBefore stream (begin (record { at = from }) mode false))
+  unfolding clusterBefore
+  before-after mode =
       let s : Parse = begin (record { at = from }) mode false in
       let on : On s = record { flow = refl; done = refl; joins = refl; again = refl; inside = inside; later = le-refl _; past = λ k l h. absurd (omega arith) } in
       seq-after stream b from (manyAs PP Base) _ s
       (while-after stream b from (is PP) (take Base) (λ j. j ≡ from) Nowhere
       (λ q onq e h. absurd (false≢true (sym (never (q .at) (onq .inside) (λ k. eqb k PP) refl refl refl refl refl refl refl) ∙ h))) refl s on refl)
-      (λ q onq x. seq-after stream b from start _ q (start-after q onq (x .0)) (λ u onu c. extensions-after Nowhere u onu c) (λ j l y. y))
+      (λ q onq x. seq-after stream b from startBefore _ q (start-after q onq (x .0)) (λ u onu c. extensions-after Nowhere u onu c) (λ j l y. y))
       (λ j l y. y)
+
+  -- The whole call: it ends at the end of the text, or at a calm place that has no extension.
+  pub call-after : (mode : Mode) → Left Ended Nowhere (run cluster stream (begin (record { at = from }) mode false))
+  call-after mode = subst (λ (q : Parse). Left Ended Nowhere q) (sym (call-before mode)) (before-after mode)

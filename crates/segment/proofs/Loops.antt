@@ -22,13 +22,14 @@ use Rattle.tables.specs.Symbols.{indexOf, rowsOf, tableOf, cellAt, Regular}
 use Rattle.tables.proofs.Cells.{shapeAt, code-at, okay}
 use Rattle.segment.specs.Calls.{joins}
 use Rattle.segment.specs.Inner.{Roomy}
+use Rattle.segment.specs.Seen.{useParser}
 use Rattle.segment.specs.Standing.{Running}
-use Rattle.segment.specs.Going.{started, goesOn, doneBy, givenUp, stopOf, backOf, refilled, overed, noted, written, turned, putBy, Wrote, Writable}
+use Rattle.segment.specs.Going.{started, goesOn, doneBy, givenUp, crowdedAt, stopOf, backOf, refilled, overed, noted, written, turned, putBy, Wrote, Writable}
 use Rattle.segment.specs.declared.going.Going.{Going}
 use Rattle.segment.specs.declared.going.Stand.{Stand}
 use Rattle.segment.proofs.CallTurns.{run-starts}
 use Rattle.segment.proofs.TableTurn.{Next, Put, After}
-use Rattle.segment.proofs.TableLaws.{answerOf, sampleOf, rulesOf, decoded, okay-class, okay-row, okay-inside, Stands, turns, turn-okay}
+use Rattle.segment.proofs.TableLaws.{answerOf, sampleOf, rulesOf, decoded, okay-class, okay-row, okay-inside, crowds, Stands, turns, turn-okay, crowded-ends}
 
 rows-some : (parser : Parser) → 0 < rowsOf parser
 unfolding rowsOf
@@ -44,19 +45,21 @@ rows-most Myanmar = omega arith
 rows-most Complex = omega arith
 rows-most Khmer = omega arith
 
--- what a turn has looked up: the cell of the current token, of a cluster that is not full
+-- what a turn has looked up: the cell of the current token, of a cluster that is not full and does not end before it
 pub record Looked (parser : Parser) (mode : Mode) (text : List ℕ) (g : Going) (v x : ℕ) : Type 0 where
   pub inside : g .at < length text
   pub unfilled : g .characters ≡ g .stop → ⊥
+  pub uncrowded : crowds parser mode text (g .row) (g .at) (g .characters) (g .stop) ≡ false
   pub cell : v ≡ cellAt (joins parser) (tableOf parser) (scalarOf (tokenAt text (g .at))) (indexOf parser mode text (g .at) (g .row)) (g .row)
   pub scalar : x ≡ scalarOf (tokenAt text (g .at))
 
 pub looked-up : (parser : Parser) (mode : Mode) (text : List ℕ) (g : Going) (v x t : ℕ) (j full : Bool) (table : List ℕ) (index : ℕ)
-    → g .at < length text → full ≡ eqb (g .characters) (g .stop) → full ≡ false → t ≡ tokenAt text (g .at) → x ≡ scalarOf t
+    → crowds parser mode text (g .row) (g .at) (g .characters) (g .stop) ≡ false → g .at < length text → full ≡ eqb (g .characters) (g .stop) → full ≡ false → t ≡ tokenAt text (g .at) → x ≡ scalarOf t
     → v ≡ cellAt j table x index (g .row) → j ≡ joins parser → table ≡ tableOf parser → index ≡ indexOf parser mode text (g .at) (g .row) → Looked parser mode text g v x
-looked-up parser mode text g v x t j full table index h ef f et ex ev ej eb ei = record {
+looked-up parser mode text g v x t j full table index u h ef f et ex ev ej eb ei = record {
   inside = h;
   unfilled = eqb-false (g .characters) (g .stop) (sym ef ∙ f);
+  uncrowded = u;
   cell = ev ∙ ap (λ j. cellAt j table x index (g .row)) ej ∙ ap (λ t. cellAt (joins parser) t x index (g .row)) eb
       ∙ ap (λ x. cellAt (joins parser) (tableOf parser) x index (g .row)) (ex ∙ ap scalarOf et) ∙ ap (λ s. cellAt (joins parser) (tableOf parser) (scalarOf (tokenAt text (g .at))) s (g .row)) ei;
   scalar = ex ∙ ap scalarOf et;
@@ -137,6 +140,21 @@ module _ (parser : Parser) (mode : Mode) (text scalars₀ classes₀ clusters₀
     pub goes-end : (s : Stand) (n : ℕ) (b : Bool) → n ≡ length text → b ≡ goesOn g n → b ≡ false → s ≡ standing g → R scalars classes clusters (s .at) (s .clusters) (s .characters)
     goes-end s n b en eb f e = subst (λ (s : Stand). R scalars classes clusters (s .at) (s .clusters) (s .characters)) (sym e) (ended (ap (goesOn g) (sym en) ∙ sym eb ∙ f))
 
+    -- a cluster that is over, and on from the token that it ended before
+    over-goes : (g .characters ≡ g .stop → ⊥) → R scalars classes clusters (g .at) (g .clusters) (g .characters) → Goes (overed g) scalars classes clusters
+    over-goes on b = record {
+      row-in = rows-some parser;
+      inside = b .inside;
+      low = b .room;
+      few = b .few;
+      scalar = w .scalar;
+      class = w .class;
+      cluster = w .cluster;
+      begun = λ z. absurd (on z);
+      filled = λ z. absurd (on z);
+      stands = λ z. b;
+    }
+
     pub goes-row : g .row < 64
     goes-row = omega (arith, w .row-in, rows-most parser)
 
@@ -165,7 +183,7 @@ module _ (parser : Parser) (mode : Mode) (text scalars₀ classes₀ clusters₀
       good = turn-okay parser mode text scalars₀ classes₀ clusters₀ roomy regular scalars classes clusters (g .at) (g .clusters) (g .stop) (g .characters) h (g .row) (w .row-in) ∙ ap (okay (rowsOf parser)) (sym (looked .cell))
 
       after : A v
-      after = subst A (sym (looked .cell)) (turns parser mode text scalars₀ classes₀ clusters₀ roomy regular scalars classes clusters (g .at) (g .clusters) (g .stop) (g .characters) h (g .row) (w .row-in) (w .stands on))
+      after = subst A (sym (looked .cell)) (turns parser mode text scalars₀ classes₀ clusters₀ roomy regular scalars classes clusters (g .at) (g .clusters) (g .stop) (g .characters) h (g .row) (w .row-in) (looked .uncrowded) (w .stands on))
 
       leaves : doneBy v ≡ 3 → R scalars classes clusters (g .at) (g .clusters) (g .characters)
       unfolding After
@@ -176,18 +194,7 @@ module _ (parser : Parser) (mode : Mode) (text scalars₀ classes₀ clusters₀
       goes-leave s b eb t e = subst (λ (s : Stand). R scalars classes clusters (s .at) (s .clusters) (s .characters)) (sym e) (leaves (eqb-true (doneBy v) 3 (both-of (eqb (doneBy v) 3) _ (sym eb ∙ t) .0)))
 
       overs : doneBy v ≡ 3 → Goes (overed g) scalars classes clusters
-      overs z = let b = leaves z in record {
-        row-in = rows-some parser;
-        inside = b .inside;
-        low = b .room;
-        few = b .few;
-        scalar = w .scalar;
-        class = w .class;
-        cluster = w .cluster;
-        begun = λ z. absurd (on z);
-        filled = λ z. absurd (on z);
-        stands = λ z. b;
-      }
+      overs z = over-goes on (leaves z)
 
       notes : (doneBy v ≡ 3 → ⊥) → doneBy v ≡ 2 → Goes (noted g v) scalars classes clusters
       unfolding After
@@ -271,6 +278,21 @@ module _ (parser : Parser) (mode : Mode) (text scalars₀ classes₀ clusters₀
           (subst (λ l. Goes (turned g v) (putBy v (g .characters) (scalarOf (tokenAt text (g .at))) scalars) l (now (on .exit))) (sym (u .class ∙ ap (putBy v (g .characters) (v % 16)) ec))
           (subst (λ l. Goes (turned g v) (putBy v (g .characters) (scalarOf (tokenAt text (g .at))) scalars) (putBy v (g .characters) (v % 16) classes) l) (sym (u .cluster ∙ ap (putBy v (g .characters) (g .clusters + doneBy v - 1)) en)) turning)))
 
+-- complex, with and without Khmer, has no such row
+pub crowds-use : (khmer : Bool) (mode : Mode) (text : List ℕ) (row i o stop : ℕ) → crowds (useParser khmer) mode text row i o stop ≡ false
+crowds-use true mode text row i o stop = refl
+crowds-use false mode text row i o stop = refl
+
+-- prepended characters that end before CR and LF
+pub goes-over : (mode : Mode) (text scalars₀ classes₀ clusters₀ : List ℕ) (roomy : Roomy text scalars₀ classes₀ clusters₀) (regular : Regular Simple text) (g : Going) (scalars classes clusters : List ℕ)
+    → Goes Simple mode text scalars₀ classes₀ clusters₀ roomy regular g scalars classes clusters → (r : Going) (full b : Bool) → g .at < length text → full ≡ eqb (g .characters) (g .stop) → full ≡ false
+    → b ≡ crowdedAt mode text (g .row) (g .at) (g .characters) (g .stop) → b ≡ true → r ≡ overed g → Goes Simple mode text scalars₀ classes₀ clusters₀ roomy regular r scalars classes clusters
+goes-over mode text scalars₀ classes₀ clusters₀ roomy regular g scalars classes clusters w r full b h ef f eb t e =
+    let on : g .characters ≡ g .stop → ⊥ = eqb-false (g .characters) (g .stop) (sym ef ∙ f) in
+    subst (λ (r : Going). Goes Simple mode text scalars₀ classes₀ clusters₀ roomy regular r scalars classes clusters) (sym e)
+    (over-goes Simple mode text scalars₀ classes₀ clusters₀ roomy regular g scalars classes clusters w on
+    (crowded-ends mode text scalars₀ classes₀ clusters₀ roomy regular (g .row) scalars classes clusters (g .at) (g .clusters) (g .stop) (g .characters) h (sym eb ∙ t) (w .stands on)))
+
 -- the measure: tokens left, cells left, whether the cluster is full, whether one is under way
 
 abbrev fullness : ℕ → ℕ → ℕ
@@ -304,6 +326,13 @@ refill-falls m n g r f er =
     let b : fullness (g .characters) (g .stop) ≡ 3 = ap (λ b. cond b 3 0) (eq-eqb (g .characters) (g .stop) f) in
     let c : underway 0 ≡ 0 = refl in
     subst (λ (r : Going). left n r < left n g) (sym er) (unfold left in omega (arith, a, b, c, back-up m (g .at)))
+
+pub over-falls : (mode : Mode) (text : List ℕ) (n : ℕ) (g r : Going) (b : Bool) → b ≡ crowdedAt mode text (g .row) (g .at) (g .characters) (g .stop) → b ≡ true → r ≡ overed g → left n r < left n g
+unfolding left crowdedAt
+over-falls mode text n g r b eb t er =
+    let a : g .row ≡ 6 = eqb-true (g .row) 6 (both-of (eqb (g .row) 6) _ (sym eb ∙ t) .0) in
+    let c : underway (g .row) ≡ 1 = ap underway a in
+    subst (λ (r : Going). left n r < left n g) (sym er) (unfold left in omega (arith, c))
 
 pub turn-falls : (n : ℕ) (g r : Going) (v : ℕ) (b : Bool) → g .at < n → g .characters ≤ 2 * g .at → b ≡ givenUp v (g .row) → b ≡ false → r ≡ turned g v → left n r < left n g
 unfolding left turned

@@ -1,37 +1,43 @@
 -- The turns of the loop over a table: what the number of a cell makes of the run. Assumes nothing.
 use Prim.Native.Nat.{ℕ, zero, suc, _+_, _-_, _*_, _/_, _%_, _<_}
 use mathlib.Core.Path.{_≡_, refl, sym, _∙_, ap, subst}
-use mathlib.Core.Bool.{Bool, true, false, cond}
+use mathlib.Core.Bool.{Bool, true, false, cond, false≢true}
 use mathlib.Core.List.{List}
 use native.Mathlib.Omega.{arith}
 use lib.Dec.{eqb, ltb}
 use lib.ListN.{length, getD}
-use borrow.Author.Tests.{lt-ltb, ne-eqb, ltb-true}
+use borrow.Author.Tests.{lt-ltb, eq-eqb, ne-eqb, ltb-true, eqb-true, eqb-false}
 use Rattle.basics.proofs.Tests.{by-test, both-of}
 use Rattle.classes.specs.Scalar.{CGJ}
 use Rattle.classes.specs.declared.Mode.{Mode}
+use Rattle.classes.specs.declared.Mode.the-variants.{Crate, Whole}
+use Rattle.classes.specs.ClusterBreak.{CR, LF}
 use Rattle.classes.specs.declared.Shape.the-variants.{Other}
 use Rattle.token.specs.Token.{scalarOf}
 use Rattle.records.specs.declared.Parser.{Parser}
 use Rattle.records.specs.declared.Parser.the-variants.{Simple, Myanmar, Complex, Khmer}
 use Rattle.parse.specs.declared.Parse.{Parse}
-use Rattle.parse.specs.State.{tokenAt, begin}
-use Rattle.parse.specs.Rule.{Rule, Test, skip}
+use Rattle.parse.specs.declared.Flow.the-variants.{Stop}
+use Rattle.parse.specs.State.{tokenAt, lastRoom, going, withFlow, begin}
+use Rattle.parse.specs.Rule.{Rule, Test, skip, run, crowded, is, nextIs, isEmoji}
 use Rattle.simple.specs.Grammar as Simple-rules
+use Rattle.simple.proofs.Moved.{parted, ends-here}
 use Rattle.segment.specs.Calls.{grammar, joins}
 use Rattle.segment.specs.Inner.{Roomy}
+use Rattle.segment.specs.Going.{newlineAt, lastCell, crowdedAt}
 use Rattle.tables.specs.Symbols.{indexOf, rowsOf, tableOf, cellAt, simpleSymbol, myanmarSymbol, emojiSymbol, useSymbol, useIndex, useRegular, Regular}
 use Rattle.tables.specs.SimpleTable.{simpleTable}
 use Rattle.tables.specs.MyanmarTable.{myanmarTable}
 use Rattle.tables.specs.ComplexTable.{complexTable}
 use Rattle.tables.specs.KhmerTable.{khmerTable}
 use Rattle.complex.specs.Grammar as Complex-rules
-use Rattle.residual.proofs.Residual.{first, Fine, Inside, Calm, calm-free}
+use Rattle.residual.proofs.Residual.{first, Fine, Inside, Calm, spare, calm-free}
 use Rattle.tables.proofs.Pairs.{pair-law}
-use Rattle.segment.proofs.TableTurn.{joiner, Between, Next, After, start-turn, joiner-turn, under-turn}
+use Rattle.segment.proofs.TableTurn.{joiner, Between, Next, After, start-turn, joiner-turn, under-turn, stop-turn}
 use Rattle.tables.proofs.Cells.{Cell, over, sets-as, cellOf, fresh, orFresh, decodedBy, okay}
 use Rattle.tables.proofs.SimpleRules as simple
 use Rattle.tables.proofs.SimpleFine as simple-fine
+use Rattle.tables.proofs.SimpleRoom.{calm-simple}
 use Rattle.tables.proofs.MyanmarRules as my
 use Rattle.tables.proofs.MyanmarFine as my-fine
 use Rattle.tables.proofs.MyanmarEnd.{calm-myanmar}
@@ -177,21 +183,58 @@ fine-of Myanmar mode text g i h = my-fine.fine-myanmar mode text g
 fine-of Complex mode text g i h = use-fine.fine-complex false text g
 fine-of Khmer mode text g i h = use-fine.fine-complex true text g
 
-simple-free : (text : List ℕ) (ask : Test → Bool) (s : Parse) → Calm text ask s Simple-rules.cluster
-simple-free text ask s = calm-free text ask s Simple-rules.cluster simple.cluster-free
+-- no room for CR and LF
+abbrev pub crowds : Parser → Mode → List ℕ → ℕ → ℕ → ℕ → ℕ → Bool
+crowds Simple mode text row i o stop = crowdedAt mode text row i o stop
+crowds Myanmar mode text row i o stop = false
+crowds Complex mode text row i o stop = false
+crowds Khmer mode text row i o stop = false
+
+-- the room of a call, and of the run that writes it
+room-same : (m : Mode) (n o stop : ℕ) → n + stop ≡ o + 32 → lastRoom m n ≡ lastCell m o stop
+unfolding lastCell
+room-same Crate n o stop e = refl
+room-same Whole n o stop e = by-test (eqb n 31)
+    (λ h. h ∙ sym (eq-eqb (o + 1) stop (omega (arith, e, eqb-true n 31 h)))) (λ h. h ∙ sym (ne-eqb (o + 1) stop (λ z. eqb-false n 31 h (omega (arith, e, z)))))
+
+room-first : (m : Mode) → lastRoom m 0 ≡ false
+room-first Crate = refl
+room-first Whole = refl
 
 calm-start : (parser : Parser) (mode : Mode) (text : List ℕ) → Regular parser text → (i : ℕ) → i < length text → leaves parser mode text i ≡ false → Calm text (answerOf parser mode text i) (begin (record { at = i }) mode (joins parser)) (grammar parser)
 unfolding grammar
-calm-start Simple mode text g i l h = simple-free text _ _
+calm-start Simple mode text g i l h = calm-simple text _ _ (λ e c. ap (λ b. cond b (nextIs LF text i) false) (room-first mode))
 calm-start Myanmar mode text g i l h = calm-myanmar text mode g i l h true
-calm-start Complex mode text g i l h = calm-free text _ _ (Complex-rules.cluster false) cx.cluster-free
-calm-start Khmer mode text g i l h = calm-free text _ _ (Complex-rules.cluster true) kh.cluster-free
+calm-start Complex mode text g i l h = calm-free text _ _ (Complex-rules.cluster false) cx.cluster-spare
+calm-start Khmer mode text g i l h = calm-free text _ _ (Complex-rules.cluster true) kh.cluster-spare
 
-calm-within : (parser : Parser) (mode : Mode) (text : List ℕ) (r : ℕ) (s : Parse) → s .mode ≡ mode → Calm text (answerOf parser mode text (s .at)) s (getD (rulesOf parser) r skip)
-calm-within Simple mode text r s e = calm-free text _ s (getD simple.rules r skip) (simple.free-at r)
-calm-within Myanmar mode text r s e = calm-free text _ s (getD my.rules r skip) (my.free-at r)
-calm-within Complex mode text r s e = calm-free text _ s (getD cx.rules r skip) (cx.free-at r)
-calm-within Khmer mode text r s e = calm-free text _ s (getD kh.rules r skip) (kh.free-at r)
+-- behind prepended characters, at a CR without the emoji mark
+room-left : (l c e n : Bool) → c ≡ true → e ≡ false → cond l (cond c (cond e false n) false) false ≡ false → cond l n false ≡ false
+room-left l true true n hc he z = absurd (false≢true (sym he))
+room-left l true false n hc he z = z
+room-left l false e n hc he z = absurd (false≢true hc)
+
+calm-fitting : (mode : Mode) (text : List ℕ) → Regular Simple text → (i o stop : ℕ) (s : Parse) → i < length text → crowdedAt mode text 6 i o stop ≡ false
+    → s .mode ≡ mode → s .at ≡ i → s .len + stop ≡ o + 32 → Calm text (answerOf Simple mode text (s .at)) s (getD simple.rules 5 skip)
+unfolding crowdedAt newlineAt
+calm-fitting mode text g i o stop s h k m a l =
+    let inside : s .at < length text = omega (arith, h, a) in
+    subst (λ r. Calm text (answerOf Simple mode text (s .at)) s r) (sym simple.fitting-is) (calm-simple text (answerOf Simple mode text (s .at)) s (λ e c.
+    ap (λ b. cond b (nextIs LF text (s .at)) false) (ap (λ m. lastRoom m (s .len)) m ∙ room-same mode (s .len) o stop l)
+    ∙ room-left (lastCell mode o stop) (is CR text (s .at)) (isEmoji text (s .at)) (nextIs LF text (s .at))
+    (sym (simple-fine.good-is text g CR (s .at) inside) ∙ c) (sym (simple-fine.good-emoji text g (s .at) inside) ∙ e) (rw a k)))
+
+calm-within : (parser : Parser) (mode : Mode) (text : List ℕ) → Regular parser text → (r i o stop : ℕ) → i < length text → suc r < rowsOf parser → crowds parser mode text (suc r) i o stop ≡ false
+    → (s : Parse) → s .mode ≡ mode → s .at ≡ i → s .len + stop ≡ o + 32 → Calm text (answerOf parser mode text (s .at)) s (getD (rulesOf parser) r skip)
+unfolding rowsOf
+calm-within Simple mode text g r i o stop h n k s m a l = by-test (eqb r 5)
+    (λ e. let z : r ≡ 5 = eqb-true r 5 e in
+    subst (λ r. Calm text (answerOf Simple mode text (s .at)) s (getD simple.rules r skip)) (sym z)
+    (calm-fitting mode text g i o stop s h (subst (λ r. crowdedAt mode text (suc r) i o stop ≡ false) z k) m a l))
+    (λ e. calm-free text _ s (getD simple.rules r skip) (ap (λ b. cond b true (spare false (getD simple.rules r skip))) (sym e) ∙ simple.spare-at r (omega (arith, n))))
+calm-within Myanmar mode text g r i o stop h n k s m a l = calm-free text _ s (getD my.rules r skip) (my.spare-at r)
+calm-within Complex mode text g r i o stop h n k s m a l = calm-free text _ s (getD cx.rules r skip) (cx.spare-at r)
+calm-within Khmer mode text g r i o stop h n k s m a l = calm-free text _ s (getD kh.rules r skip) (kh.spare-at r)
 
 -- the parts of a good cell
 pub okay-class : (rows v : ℕ) → true ≡ okay rows v → v % 16 < 15
@@ -262,11 +305,11 @@ module _ (parser : Parser) (mode : Mode) (text scalars₀ classes₀ clusters₀
         rw (a, b, c, lt-ltb (suc r) (rowsOf parser) l, lt-ltb 0 (suc r) (omega arith))
 
     -- one turn
-    pub turns : (row : ℕ) → row < rowsOf parser → Stands row scalars classes clusters i num stop o
+    pub turns : (row : ℕ) → row < rowsOf parser → crowds parser mode text row i o stop ≡ false → Stands row scalars classes clusters i num stop o
         → Aft (decoded parser mode text (cellAt (joins parser) (tableOf parser) (scalarOf (tokenAt text i)) (indexOf parser mode text i row) row)) scalars classes clusters i num stop o
-    turns zero l b = subst (λ v. Aft (decoded parser mode text v) scalars classes clusters i num stop o) (sym (cell-between (joins parser) (tableOf parser) (scalarOf (tokenAt text i)) (indexOf parser mode text i 0)))
+    turns zero l k b = subst (λ v. Aft (decoded parser mode text v) scalars classes clusters i num stop o) (sym (cell-between (joins parser) (tableOf parser) (scalarOf (tokenAt text i)) (indexOf parser mode text i 0)))
         (subst (λ c. Aft c scalars classes clusters i num stop o) (table-law parser mode text regular i zero h l) (begins b))
-    turns (suc r) l n =
+    turns (suc r) l k n =
         let u = n .0 h in
         by-test (joiner (joins parser) (scalarOf (tokenAt text i)))
         (λ j. subst (λ v. Aft (decoded parser mode text v) scalars classes clusters i num stop o)
@@ -277,7 +320,7 @@ module _ (parser : Parser) (mode : Mode) (text scalars₀ classes₀ clusters₀
         (sym (cell-within (joins parser) (tableOf parser) (scalarOf (tokenAt text i)) (indexOf parser mode text i (suc r)) r ∙ ap (λ b. cond b (suc r * 64 + 14) (cellIn parser mode text i (suc r))) j))
         (subst (λ c. Aft c scalars classes clusters i num stop o) (table-law parser mode text regular i (suc r) h l)
         (under-turn parser mode text scalars₀ classes₀ clusters₀ roomy (answerOf parser mode text) (sampleOf parser mode text) scalars classes clusters i num stop o _ u j
-        (calm-within parser mode text r) (cond (late parser r) over (opening parser mode text i)) (later r))))
+        (calm-within parser mode text regular r i o stop h l k) (cond (late parser r) over (opening parser mode text i)) (later r))))
 
     -- and its cell is a good one
     pub turn-okay : (row : ℕ) → row < rowsOf parser → true ≡ okay (rowsOf parser) (cellAt (joins parser) (tableOf parser) (scalarOf (tokenAt text i)) (indexOf parser mode text i row) row)
@@ -285,3 +328,35 @@ module _ (parser : Parser) (mode : Mode) (text scalars₀ classes₀ clusters₀
     turn-okay (suc r) l = by-test (joiner (joins parser) (scalarOf (tokenAt text i)))
         (λ j. okay-joined r l ∙ ap (okay (rowsOf parser)) (sym (cell-within (joins parser) (tableOf parser) (scalarOf (tokenAt text i)) (indexOf parser mode text i (suc r)) r ∙ ap (λ b. cond b (suc r * 64 + 14) (cellIn parser mode text i (suc r))) j)))
         (λ j. table-okay parser mode text regular i (suc r) h l ∙ ap (okay (rowsOf parser)) (sym (cell-within (joins parser) (tableOf parser) (scalarOf (tokenAt text i)) (indexOf parser mode text i (suc r)) r ∙ ap (λ b. cond b (suc r * 64 + 14) (cellIn parser mode text i (suc r))) j)))
+
+-- the cluster of prepended characters that ends before CR and LF
+module _ (mode : Mode) (text scalars₀ classes₀ clusters₀ : List ℕ) (roomy : Roomy text scalars₀ classes₀ clusters₀) (regular : Regular Simple text) where
+  last-is : (m : Mode) (o stop : ℕ) → lastCell m o stop ≡ true → (m ≡ Whole) × (o + 1 ≡ stop)
+  unfolding lastCell
+  last-is Crate o stop e = absurd (false≢true e)
+  last-is Whole o stop e = (refl, eqb-true (o + 1) stop e)
+
+  newline-parts : (c e n : Bool) → cond c (cond e false n) false ≡ true → (c ≡ true) × (e ≡ false) × (n ≡ true)
+  newline-parts true true n z = absurd (false≢true z)
+  newline-parts true false n z = (refl, refl, z)
+  newline-parts false e n z = absurd (false≢true z)
+
+  -- the call stops there
+  stops-there : (i : ℕ) (s : Parse) → newlineAt text i ≡ true → going s ≡ true → s .mode ≡ Whole → s .at ≡ i → s .len ≡ 31 → run (getD simple.rules 5 skip) text s ≡ withFlow Stop s
+  unfolding newlineAt
+  stops-there i s y g m a l =
+      let z = newline-parts (is CR text (s .at)) (isEmoji text (s .at)) (nextIs LF text (s .at)) (rw a y) in
+      let w : lastRoom (s .mode) (s .len) ≡ true = ap (λ m. lastRoom m (s .len)) m ∙ ap (λ n. eqb n 31) l in
+      ap (λ r. run r text s) simple.fitting-is ∙ ends-here text s (rw (g, z .1, z .0, w, z .2))
+
+  pub crowded-ends : (row : ℕ) (scalars classes clusters : List ℕ) (i num stop o : ℕ) → i < length text → crowdedAt mode text row i o stop ≡ true
+      → Stands Simple mode text scalars₀ classes₀ clusters₀ roomy regular row scalars classes clusters i num stop o
+      → Between Simple mode text scalars₀ classes₀ clusters₀ roomy (answerOf Simple mode text) (sampleOf Simple mode text) scalars classes clusters i num o
+  unfolding crowdedAt
+  crowded-ends row scalars classes clusters i num stop o h k st =
+      let a = both-of (eqb row 6) _ k in
+      let b = both-of (lastCell mode o stop) (newlineAt text i) (a .1) in
+      let c = last-is mode o stop (b .0) in
+      let n = subst (λ row. Stands Simple mode text scalars₀ classes₀ clusters₀ roomy regular row scalars classes clusters i num stop o) (eqb-true row 6 (a .0)) st in
+      stop-turn Simple mode text scalars₀ classes₀ clusters₀ roomy (answerOf Simple mode text) (sampleOf Simple mode text) scalars classes clusters i num stop o
+      (getD simple.rules 5 skip) (n .0 h) refl (c .1) (λ s g m p l. stops-there i s (b .1) g (m ∙ c .0) p l)

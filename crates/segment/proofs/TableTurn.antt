@@ -357,10 +357,25 @@ module _ (parser : Parser) (mode : Mode) (text scalars₀ classes₀ clusters₀
     joiner-turn = at-its (λ i num stop o. joiner (joins parser) (scalarOf (tokenAt text i)) ≡ true → After (sets-as Other left) scalars classes clusters i num stop o)
         (λ j. joining scalars classes clusters (u .k) (u .w) left (u .s) (u .opened) (u .some) (u .begun) j (u .fit))
 
-    pub under-turn : joiner (joins parser) (scalarOf (tokenAt text i)) ≡ false → ((s : Parse) → s .mode ≡ mode → Calm text (answer (s .at)) s left) → (y : Cell)
+    pub under-turn : joiner (joins parser) (scalarOf (tokenAt text i)) ≡ false → ((s : Parse) → s .mode ≡ mode → s .at ≡ i → s .len + stop ≡ o + 32 → Calm text (answer (s .at)) s left) → (y : Cell)
         → (Between scalars classes clusters i num o → After (fresh y) scalars classes clusters i num stop o)
         → After (orFresh (cellOf (sample i) (first (answer i) left)) y) scalars classes clusters i num stop o
-    under-turn = at-its (λ i num stop o. joiner (joins parser) (scalarOf (tokenAt text i)) ≡ false → ((s : Parse) → s .mode ≡ mode → Calm text (answer (s .at)) s left) → (y : Cell)
+    under-turn = at-its (λ i num stop o. joiner (joins parser) (scalarOf (tokenAt text i)) ≡ false → ((s : Parse) → s .mode ≡ mode → s .at ≡ i → s .len + stop ≡ o + 32 → Calm text (answer (s .at)) s left) → (y : Cell)
         → (Between scalars classes clusters i num o → After (fresh y) scalars classes clusters i num stop o)
         → After (orFresh (cellOf (sample i) (first (answer i) left)) y) scalars classes clusters i num stop o)
-        (λ j calm y go. inside-turn scalars classes clusters (u .k) (u .w) left (u .s) (u .opened) (u .some) (u .begun) j (u .fit) (calm (u .s) (u .opened .its-mode)) y go)
+        (λ j calm y go. inside-turn scalars classes clusters (u .k) (u .w) left (u .s) (u .opened) (u .some) (u .begun) j (u .fit) (calm (u .s) (u .opened .its-mode) refl (omega arith)) y go)
+
+    -- a rule that stops before its token
+    pub stop-turn : joiner (joins parser) (scalarOf (tokenAt text i)) ≡ false → o + 1 ≡ stop
+        → ((s : Parse) → going s ≡ true → s .mode ≡ mode → s .at ≡ i → s .len ≡ 31 → run left text s ≡ withFlow Stop s)
+        → Between scalars classes clusters i num o
+    stop-turn j last stops =
+        let s : Parse = u .s in
+        let p : Open parser mode text s = u .opened in
+        let b = u .begun in
+        let still : onJoiner text s ≡ false = rw (p .goes, p .its-joins, u .here) j in
+        let call : run left text s ≡ called parser mode text (b .from) = ap (run left text) (sym (loop-stays text (onJoiner text) (hop text) s still)) ∙ b .call in
+        let stopped : run left text s ≡ withFlow Stop s = stops s (p .goes) (p .its-mode) (u .here) (omega (arith, u .to, u .full, last)) in
+        subst (λ num. Between scalars classes clusters i num o) (sym (u .number)) (subst (λ o. Between scalars classes clusters i (u .k + 1) o) (sym (u .to))
+        (finished scalars classes clusters (u .k) (u .w) i (withFlow Stop s)
+        (again scalars classes clusters (u .k) (u .w) s _ (withFlow Stop s) (withFlow Stop s) b refl (sym stopped ∙ call)) (rw (p .undone) (sym (u .here)))))

@@ -7,8 +7,11 @@ use lib.Dec.{eqb, ltb}
 use lib.ListN.{length, set}
 use denote.Ref.{RefT, now}
 use denote.Triple.Both.{Both}
+use Rattle.classes.specs.ClusterBreak.{CR, LF}
 use Rattle.classes.specs.declared.Mode.{Mode}
 use Rattle.classes.specs.declared.Mode.the-variants.{Crate, Whole}
+use Rattle.parse.specs.Rule.{is, nextIs, isEmoji}
+use Rattle.tables.specs.Symbols.{prependedRow}
 use Rattle.segment.specs.declared.going.Going.{Going}
 
 abbrev pub started : Going
@@ -24,6 +27,19 @@ doneBy v = v / 16 % 4
 -- over between two clusters: the table does not know the cluster that begins here
 abbrev pub givenUp : ℕ → ℕ → Bool
 givenUp v row = cond (eqb (doneBy v) 3) (eqb row 0) false
+
+-- a CR without the emoji mark, and an LF behind it
+unfoldable pub newlineAt : List ℕ → ℕ → Bool
+newlineAt text i = cond (is CR text i) (cond (isEmoji text i) false (nextIs LF text i)) false
+
+-- whether the next character is the last that the cluster has room for, in whole mode
+unfoldable pub lastCell : Mode → ℕ → ℕ → Bool
+lastCell Crate o stop = false
+lastCell Whole o stop = eqb (o + 1) stop
+
+-- the cluster under way ends before the token at its place: prepended characters, and no room for both CR and LF
+unfoldable pub crowdedAt : Mode → List ℕ → ℕ → ℕ → ℕ → ℕ → Bool
+crowdedAt mode text row i o stop = cond (eqb row prependedRow) (cond (lastCell mode o stop) (newlineAt text i) false) false
 
 unfoldable pub stopOf : ℕ → ℕ → ℕ → ℕ
 stopOf what o stop = cond (eqb what 1) (o + 32) stop

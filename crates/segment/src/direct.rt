@@ -5,6 +5,7 @@ use crate::going::Stand;
 use crate::going::cell;
 use crate::going::gives_up;
 use classes::Mode;
+use classes::cluster_break;
 use classes::myanmar_class;
 use classes::scalar;
 use myanmar::begins_kinzi;
@@ -21,12 +22,13 @@ use tables::simple_table::SIMPLE;
 use tables::use_symbol;
 ghost use mathlib.Core.Path.{_≡_};
 ghost use lib.ListN.{length};
-ghost use Prim.Native.Nat.{_<_};
+ghost use Prim.Native.Nat.{_<_, _≤_};
 ghost use Rattle.classes.specs.declared.Mode.the-variants.{Crate};
 ghost use Rattle.records.specs.Text.{lent};
 ghost use Rattle.records.specs.declared.Parser.the-variants.{Simple, Myanmar, Complex, Khmer};
 ghost use Rattle.parse.specs.State.{tokenAt};
 ghost use Rattle.tables.specs.Symbols.{useIndex, tableOf};
+ghost use Rattle.segment.specs.Going.{newlineAt, crowdedAt};
 ghost use Rattle.segment.specs.Seen.{seenIn, useParser, Even, kinziIn, endsIn, myanmarSeen, myanmarIndex};
 ghost use Rattle.segment.specs.Standing.{Ready, ReachedIn};
 
@@ -54,6 +56,57 @@ fn token_at(
     )
 }
 
+// The row of the simple table behind prepended characters.
+const PREPENDED: usize = 6;
+
+// Whether record i is a CR without the emoji mark, and an LF behind it.
+fn is_newline(
+    scalars: &[u32],
+    breaks: &[u8],
+    categories: &[u8],
+    emojis: &[u8],
+    selectors: &[u8],
+    i: usize,
+) -> bool
+    requires { ⌜ Even (now scalars) (now breaks) (now breaks) (now categories) (now emojis) (now selectors) × (i < length (now scalars)) ⌝ }
+    ensures { λ r. ⌜ r ≡ newlineAt (seenIn (now (scalars .entry)) (now (breaks .entry)) (now (breaks .entry)) (now (categories .entry)) (now (emojis .entry)) (now (selectors .entry))) i ⌝ }
+{
+    let t = token_at(scalars, breaks, breaks, categories, emojis, selectors, i);
+    if token::kind(t) == cluster_break::CR {
+        if token::emoji(t) == 1 {
+            return false;
+        }
+        if i + 1 < scalars.len() {
+            let next = token_at(scalars, breaks, breaks, categories, emojis, selectors, i + 1);
+            return token::kind(next) == cluster_break::LF;
+        }
+        return false;
+    }
+    false
+}
+
+// Whether the cluster under way ends before the record at its place: prepended characters, and no room for both CR and LF (SCOPE 6.9).
+fn is_crowded(
+    mode: Mode,
+    g: Going,
+    scalars: &[u32],
+    breaks: &[u8],
+    categories: &[u8],
+    emojis: &[u8],
+    selectors: &[u8],
+) -> bool
+    requires { ⌜ Even (now scalars) (now breaks) (now breaks) (now categories) (now emojis) (now selectors) × (g .at < length (now scalars)) × (g .characters ≤ 65535) ⌝ }
+    ensures { λ r. ⌜ r ≡ crowdedAt mode (seenIn (now (scalars .entry)) (now (breaks .entry)) (now (breaks .entry)) (now (categories .entry)) (now (emojis .entry)) (now (selectors .entry))) (g .row) (g .at) (g .characters) (g .stop) ⌝ }
+{
+    if g.row == PREPENDED {
+        if g.has_last_cell(mode) {
+            return is_newline(scalars, breaks, categories, emojis, selectors, g.at);
+        }
+        return false;
+    }
+    false
+}
+
 fn by_simple<'s, 'a>(
     mode: Mode,
     wides: &'s [&'a [u32]; 2],
@@ -77,6 +130,8 @@ fn by_simple<'s, 'a>(
     while g.goes_on(n) {
         if g.is_full() {
             g = g.refill(mode);
+        } else if is_crowded(mode, g, scalars, breaks, categories, emojis, selectors) {
+            g = g.over();
         } else {
             let i = g.at;
             let row = g.row;

@@ -5,7 +5,7 @@ ghost use Prim.Native.Nat.{_-_, _<_, _≤_};
 ghost use lib.Dec.{eqb};
 ghost use lib.ListN.{length};
 ghost use Rattle.tables.specs.Symbols.{joinedAt, cellAt};
-ghost use Rattle.segment.specs.Going.{goesOn, givenUp, stopOf, backOf, refilled, overed, noted, turned, Writable, Wrote};
+ghost use Rattle.segment.specs.Going.{goesOn, givenUp, lastCell, stopOf, backOf, refilled, overed, noted, turned, Writable, Wrote};
 
 // Where a run stands between two clusters.
 pub(crate) struct Stand {
@@ -112,6 +112,17 @@ impl Going {
         self.characters == self.stop
     }
 
+    // Whether the next character is the last that the cluster has room for, in whole mode.
+    pub(crate) fn has_last_cell(self, mode: Mode) -> bool
+        requires { ⌜ self .characters ≤ 65535 ⌝ }
+        ensures { λ r. ⌜ r ≡ lastCell mode (self .characters) (self .stop) ⌝ }
+    {
+        match mode {
+            Mode::Crate => false,
+            Mode::Whole => self.characters + 1 == self.stop,
+        }
+    }
+
     // Whether a text of n tokens has a turn more: a full cluster of crate mode has, since its last token is looked at again.
     pub(crate) fn goes_on(self, n: usize) -> bool
         ensures { λ r. ⌜ r ≡ goesOn self n ⌝ }
@@ -137,7 +148,7 @@ impl Going {
     }
 
     // The cluster is over: the current token is looked at again, between two clusters.
-    fn over(self) -> Going
+    pub(crate) fn over(self) -> Going
         ensures { λ r. ⌜ r ≡ overed self ⌝ }
     {
         Going {

@@ -1,13 +1,13 @@
 -- What keeping CR and LF together at 32 characters moved, and that it moved nothing else. Assumes nothing.
 use Prim.Native.Nat.{ℕ}
-use mathlib.Core.Path.{_≡_, refl, sym, _∙_, ap}
+use mathlib.Core.Path.{_≡_, refl, sym, _∙_, ap, subst}
 use mathlib.Core.Bool.{Bool, true, false, cond, false≢true}
 use mathlib.Core.List.{List}
 use lib.Dec.{eqb}
 use borrow.Author.Tests.{eqb-true}
 use Rattle.basics.proofs.Tests.{by-test, both-of}
 use Rattle.classes.specs.declared.Mode.{Mode}
-use Rattle.classes.specs.declared.Mode.the-variants.{Crate}
+use Rattle.classes.specs.declared.Mode.the-variants.{Crate, Whole}
 use Rattle.classes.specs.declared.Shape.the-variants.{Base, Control}
 use Rattle.classes.specs.ClusterBreak.{CN, CR, LF, PP}
 use Rattle.token.specs.Token.{kindOf}
@@ -15,10 +15,10 @@ use Rattle.parse.specs.declared.Parse.{Parse}
 use Rattle.parse.specs.declared.Space.the-variants.{Newline}
 use Rattle.parse.specs.declared.Flow.the-variants.{Stop}
 use Rattle.parse.specs.State.{tokenAt, lastRoom, going, withFlow}
-use Rattle.parse.specs.Rule.{Test, Rule, stop, seq, choose, while, run, crowded, holds, acceptAs, manyAs, is, nextIs, isEmoji, setSpace}
+use Rattle.parse.specs.Rule.{Test, Rule, stop, seq, choose, while, run, crowded, holds, take, acceptAs, manyAs, is, nextIs, isEmoji, setSpace}
 use Rattle.parse.specs.Shared.{newline, newlineWith}
 use Rattle.parse.proofs.Keeps.{run-mode}
-use Rattle.parse.proofs.Runs.{run-still, run-seq, run-then, run-else, run-crowded, run-roomy, holds-going}
+use Rattle.parse.proofs.Runs.{run-still, run-stays, run-seq, run-then, run-else, run-crowded, run-roomy, holds-going}
 use Rattle.simple.specs.Grammar.{cluster, start, control, syllable, isExtension, extension}
 use Rattle.simple.specs.Before.{clusterBefore, startBefore, controlBefore}
 
@@ -55,18 +55,26 @@ module _ (text : List ℕ) where
       let q = prepended text s in
       run-seq _ _ text s ∙ run-seq _ _ text q ∙ ap (run (while isExtension extension) text) (start-same q n) ∙ sym (run-seq _ _ text s ∙ run-seq _ _ text q)
 
+  room-roomy : (a b x : Bool) → cond a false (cond b (cond false x false) false) ≡ false
+  room-roomy true b x = refl
+  room-roomy false true x = refl
+  room-roomy false false x = refl
+
+  room-kept : (q : Parse) → lastRoom (q .mode) (q .len) ≡ false → parted text q ≡ false
+  room-kept q r = ap (λ b. cond (holds text isEmoji q) false (cond (holds text (is CR) q) (cond b (nextIs LF text (q .at)) false) false)) r
+      ∙ room-roomy (holds text isEmoji q) (holds text (is CR) q) (nextIs LF text (q .at))
+
   -- "Crate mode does not change."
   pub crate-as-before : (s : Parse) → s .mode ≡ Crate → run cluster text s ≡ run clusterBefore text s
-  crate-as-before s c = as-before s (never (prepended text s) (run-mode (manyAs PP Base) text s ∙ c))
-    where
-      roomy : (a b x : Bool) → cond a false (cond b (cond false x false) false) ≡ false
-      roomy true b x = refl
-      roomy false true x = refl
-      roomy false false x = refl
+  crate-as-before s c = as-before s (room-kept (prepended text s) (ap (λ m. lastRoom m ((prepended text s) .len)) (run-mode (manyAs PP Base) text s ∙ c)))
 
-      never : (q : Parse) → q .mode ≡ Crate → parted text q ≡ false
-      never q m = ap (λ m. cond (holds text isEmoji q) false (cond (holds text (is CR) q) (cond (lastRoom m (q .len)) (nextIs LF text (q .at)) false) false)) m
-          ∙ roomy (holds text isEmoji q) (holds text (is CR) q) (nextIs LF text (q .at))
+  room-first : (m : Mode) (n : ℕ) → n ≡ 0 → lastRoom m n ≡ false
+  room-first Crate n e = refl
+  room-first Whole n e = ap (λ n. eqb n 31) e
+
+  -- Nor does a call that begins with no prepended character.
+  pub unprepended : (s : Parse) → holds text (is PP) s ≡ false → s .len ≡ 0 → run cluster text s ≡ run clusterBefore text s
+  unprepended s h e = as-before s (subst (λ (q : Parse). parted text q ≡ false) (sym (run-stays (is PP) (take Base) text s h)) (room-kept s (room-first (s .mode) (s .len) e)))
 
   -- a test of one kind fails where one of another holds
   other-kind : (k j : ℕ) (s : Parse) → eqb k j ≡ false → holds text (is k) s ≡ true → holds text (is j) s ≡ false
@@ -88,6 +96,14 @@ module _ (text : List ℕ) where
       run-else isEmoji _ _ text s (z .0) ∙ run-else (is CN) _ _ text s (other-kind CR CN s refl (z .1)) ∙ run-else (is LF) _ _ text s (other-kind CR LF s refl (z .1))
       ∙ run-then (is CR) _ _ text s (z .1) ∙ run-seq _ _ text s
       ∙ ap (run (acceptAs LF Control) text) (newline-stops s (holds-going text (is CR) s (z .1)) (z .2)) ∙ run-still (acceptAs LF Control) text (withFlow Stop s) refl
+
+  -- where CR is the token at hand
+  pub ends-here : (s : Parse) → parted text s ≡ true → run cluster text s ≡ withFlow Stop s
+  unfolding cluster
+  ends-here s y =
+      let z = parted-parts (holds text isEmoji s) (holds text (is CR) s) (crowded text (nextIs LF) s) y in
+      run-seq _ _ text s ∙ ap (run (seq start (while isExtension extension)) text) (run-stays (is PP) (take Base) text s (other-kind CR PP s refl (z .1)))
+      ∙ run-seq _ _ text s ∙ ap (run (while isExtension extension) text) (start-stops s y) ∙ run-still (while isExtension extension) text (withFlow Stop s) refl
 
   -- There "the cluster ends before CR, with space none": it is the prepended characters, and its next place is CR's.
   pub ends-before : (s : Parse) → parted text (prepended text s) ≡ true → run cluster text s ≡ withFlow Stop (prepended text s)

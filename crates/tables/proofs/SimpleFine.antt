@@ -105,7 +105,7 @@ module _ (text : List ℕ) (regular : Regular Simple text) where
   unfolding simpleIn
   sample-break i h = says breakOf (λ n. n % 14) refl i h ∙ its-kind (tok i) (kind-below i h) ∙ kind-break i h
 
-  good-is : (k : ℕ) (i : ℕ) → Inside text i → answer i (is k) ≡ is k text i
+  pub good-is : (k : ℕ) (i : ℕ) → Inside text i → answer i (is k) ≡ is k text i
   good-is k i h = ap (λ x. eqb x k) (sample-kind i h)
 
   good-one : (ks : List ℕ) (i : ℕ) → Inside text i → answer i (oneOf ks) ≡ oneOf ks text i
@@ -115,7 +115,7 @@ module _ (text : List ℕ) (regular : Regular Simple text) where
   good-break : (k : ℕ) (i : ℕ) → Inside text i → answer i (isBreak k) ≡ isBreak k text i
   good-break k i h = ap (λ x. eqb x k) (sample-break i h)
 
-  good-emoji : (i : ℕ) → Inside text i → answer i isEmoji ≡ isEmoji text i
+  pub good-emoji : (i : ℕ) → Inside text i → answer i isEmoji ≡ isEmoji text i
   unfolding simpleIn
   good-emoji i h = ap (λ x. eqb x 1) (says emojiOf (λ n. n / 14 % 2) refl i h ∙ its-emoji (tok i) (kind-below i h))
 

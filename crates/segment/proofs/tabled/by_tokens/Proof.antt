@@ -5,7 +5,7 @@ use lib.ListN.{length}
 use Rattle.tables.specs.Symbols.{Regular}
 use Rattle.segment.specs.Inner.{Roomy}
 use Rattle.segment.proofs.TableLaws.{cell-index}
-use Rattle.segment.proofs.Loops.{Goes, goes-start, goes-refill, goes-end, goes-row, goes-room, goes-leave, goes-turn, looked-up, left, is-filled, refill-falls, turn-falls, turn-inside}
+use Rattle.segment.proofs.Loops.{crowds-use, Goes, goes-start, goes-refill, goes-end, goes-row, goes-room, goes-leave, goes-turn, looked-up, left, is-filled, refill-falls, turn-falls, turn-inside}
 use Rattle.segment.specs.Seen.{useParser}
 use borrow.Author.Needs.{needs}
 use Rattle.segment.proofs.tabled.by_tokens.Statement.{statement}
@@ -67,7 +67,7 @@ same-length-3 : tie.Need-same-length-3 Inv-loop μ-loop
 same-length-3 c = (c .before .before .before .before .before .before .before .before .before .before .before .loop .inv (c .before .before .before .before .before .before .before .before .before .before .before .before .before .before .before .before .before .pre .1 .1) (c .before .before .before .before .before .before .before .before .before .before .before .before .before .before .before .before .before .pre .1 .0)) .cluster
 
 returns : tie.Need-returns Inv-loop μ-loop
-returns c = goes-leave _ _ _ _ _ _ (c .before .before .before .before .before .before .before .before .before .before .before .before .before .before .before .before .before .pre .1 .1) (c .before .before .before .before .before .before .before .before .before .before .before .before .before .before .before .before .before .pre .1 .0) _ _ _ _ (c .before .before .before .before .before .before .before .before .before .before .before .loop .inv (c .before .before .before .before .before .before .before .before .before .before .before .before .before .before .before .before .before .pre .1 .1) (c .before .before .before .before .before .before .before .before .before .before .before .before .before .before .before .before .before .pre .1 .0)) _ _ (looked-up _ _ _ _ _ _ _ _ _ _ _ (turn-inside (c .before .before .before .before .before .before .before .before .before .before .before .loop .g) (length (c .before .before .before .before .before .before .before .before .before .before .before .before .before .before .before .before .before .args .text .now)) _ _ (c .before .before .before .before .before .before .before .before .before .before .goes-on .ensures) (c .before .before .before .before .before .before .before .before .before .if1 .taken) (c .before .before .before .before .before .before .before .before .is-full .ensures) (c .before .before .before .before .before .before .before .if2 .left)) (c .before .before .before .before .before .before .before .before .is-full .ensures) (c .before .before .before .before .before .before .before .if2 .left) refl (c .before .before .before .before .before .scalar .ensures) (c .before .before .before .cell .ensures) (joins-use (c .before .before .before .before .before .before .before .before .before .before .before .before .before .before .before .before .before .args .khmer)) (c .before .before .before .before .before .before .before .before .before .before .before .before .before .before .before .before .before .pre .0) (index-use (c .before .before .before .before .before .before .before .before .before .before .before .before .before .before .before .before .before .args .khmer) _ _ _ _ _ _ (c .before .before .before .before .use-index .ensures) refl)) _ _ (c .before .before .gives-up .ensures) (c .before .if3 .taken) (c .stand .ensures)
+returns c = goes-leave _ _ _ _ _ _ (c .before .before .before .before .before .before .before .before .before .before .before .before .before .before .before .before .before .pre .1 .1) (c .before .before .before .before .before .before .before .before .before .before .before .before .before .before .before .before .before .pre .1 .0) _ _ _ _ (c .before .before .before .before .before .before .before .before .before .before .before .loop .inv (c .before .before .before .before .before .before .before .before .before .before .before .before .before .before .before .before .before .pre .1 .1) (c .before .before .before .before .before .before .before .before .before .before .before .before .before .before .before .before .before .pre .1 .0)) _ _ (looked-up _ _ _ _ _ _ _ _ _ _ _ (crowds-use (c .before .before .before .before .before .before .before .before .before .before .before .before .before .before .before .before .before .args .khmer) _ _ _ _ _ _) (turn-inside (c .before .before .before .before .before .before .before .before .before .before .before .loop .g) (length (c .before .before .before .before .before .before .before .before .before .before .before .before .before .before .before .before .before .args .text .now)) _ _ (c .before .before .before .before .before .before .before .before .before .before .goes-on .ensures) (c .before .before .before .before .before .before .before .before .before .if1 .taken) (c .before .before .before .before .before .before .before .before .is-full .ensures) (c .before .before .before .before .before .before .before .if2 .left)) (c .before .before .before .before .before .before .before .before .is-full .ensures) (c .before .before .before .before .before .before .before .if2 .left) refl (c .before .before .before .before .before .scalar .ensures) (c .before .before .before .cell .ensures) (joins-use (c .before .before .before .before .before .before .before .before .before .before .before .before .before .before .before .before .before .args .khmer)) (c .before .before .before .before .before .before .before .before .before .before .before .before .before .before .before .before .before .pre .0) (index-use (c .before .before .before .before .before .before .before .before .before .before .before .before .before .before .before .before .before .args .khmer) _ _ _ _ _ _ (c .before .before .before .before .use-index .ensures) refl)) _ _ (c .before .before .gives-up .ensures) (c .before .if3 .taken) (c .stand .ensures)
 
 turn-requires : tie.Need-turn-requires Inv-loop μ-loop
 turn-requires c κs = goes-room _ _ _ _ _ _ (c .before .before .before .before .before .before .before .before .before .before .before .before .before .before .before .before .before .before .before .pre .1 .1) (c .before .before .before .before .before .before .before .before .before .before .before .before .before .before .before .before .before .before .before .pre .1 .0) _ _ _ _ (c .before .before .before .before .before .before .before .before .before .before .before .before .before .loop .inv (c .before .before .before .before .before .before .before .before .before .before .before .before .before .before .before .before .before .before .before .pre .1 .1) (c .before .before .before .before .before .before .before .before .before .before .before .before .before .before .before .before .before .before .before .pre .1 .0)) (turn-inside (c .before .before .before .before .before .before .before .before .before .before .before .before .before .loop .g) (length (c .before .before .before .before .before .before .before .before .before .before .before .before .before .before .before .before .before .before .before .args .text .now)) _ _ (c .before .before .before .before .before .before .before .before .before .before .before .before .goes-on .ensures) (c .before .before .before .before .before .before .before .before .before .before .before .if1 .taken) (c .before .before .before .before .before .before .before .before .before .before .is-full .ensures) (c .before .before .before .before .before .before .before .before .before .if2 .left))
@@ -76,7 +76,7 @@ loop-less-2 : tie.Need-loop-less-2 Inv-loop μ-loop
 loop-less-2 c = turn-falls _ _ _ _ _ (turn-inside (c .before .before .before .before .before .before .before .before .before .before .before .before .before .before .before .before .before .before .before .before .loop .g) (length (c .before .before .before .before .before .before .before .before .before .before .before .before .before .before .before .before .before .before .before .before .before .before .before .before .before .before .args .text .now)) _ _ (c .before .before .before .before .before .before .before .before .before .before .before .before .before .before .before .before .before .before .before .goes-on .ensures) (c .before .before .before .before .before .before .before .before .before .before .before .before .before .before .before .before .before .before .if1 .taken) (c .before .before .before .before .before .before .before .before .before .before .before .before .before .before .before .before .before .is-full .ensures) (c .before .before .before .before .before .before .before .before .before .before .before .before .before .before .before .before .if2 .left)) ((c .before .before .before .before .before .before .before .before .before .before .before .before .before .before .before .before .before .before .before .before .loop .inv (c .before .before .before .before .before .before .before .before .before .before .before .before .before .before .before .before .before .before .before .before .before .before .before .before .before .before .pre .1 .1) (c .before .before .before .before .before .before .before .before .before .before .before .before .before .before .before .before .before .before .before .before .before .before .before .before .before .before .pre .1 .0)) .low) (c .before .before .before .before .before .before .before .before .before .before .before .gives-up .ensures) (c .before .before .before .before .before .before .before .before .before .before .if3 .left) (c .before .before .before .before .before .before .turn .ensures .0)
 
 loop-again-2 : tie.Need-loop-again-2 Inv-loop μ-loop
-loop-again-2 c = λ r q. goes-turn _ _ _ _ _ _ r q _ _ _ _ (c .before .before .before .before .before .before .before .before .before .before .before .before .before .before .before .before .before .before .before .before .loop .inv r q) _ _ (looked-up _ _ _ _ _ _ _ _ _ _ _ (turn-inside (c .before .before .before .before .before .before .before .before .before .before .before .before .before .before .before .before .before .before .before .before .loop .g) (length (c .before .before .before .before .before .before .before .before .before .before .before .before .before .before .before .before .before .before .before .before .before .before .before .before .before .before .args .text .now)) _ _ (c .before .before .before .before .before .before .before .before .before .before .before .before .before .before .before .before .before .before .before .goes-on .ensures) (c .before .before .before .before .before .before .before .before .before .before .before .before .before .before .before .before .before .before .if1 .taken) (c .before .before .before .before .before .before .before .before .before .before .before .before .before .before .before .before .before .is-full .ensures) (c .before .before .before .before .before .before .before .before .before .before .before .before .before .before .before .before .if2 .left)) (c .before .before .before .before .before .before .before .before .before .before .before .before .before .before .before .before .before .is-full .ensures) (c .before .before .before .before .before .before .before .before .before .before .before .before .before .before .before .before .if2 .left) refl (c .before .before .before .before .before .before .before .before .before .before .before .before .before .before .scalar .ensures) (c .before .before .before .before .before .before .before .before .before .before .before .before .cell .ensures) (joins-use (c .before .before .before .before .before .before .before .before .before .before .before .before .before .before .before .before .before .before .before .before .before .before .before .before .before .before .args .khmer)) (c .before .before .before .before .before .before .before .before .before .before .before .before .before .before .before .before .before .before .before .before .before .before .before .before .before .before .pre .0) (index-use (c .before .before .before .before .before .before .before .before .before .before .before .before .before .before .before .before .before .before .before .before .before .before .before .before .before .before .args .khmer) _ _ _ _ _ _ (c .before .before .before .before .before .before .before .before .before .before .before .before .before .use-index .ensures) refl)) _ _ _ _ refl refl refl (c .before .before .before .before .before .before .turn .ensures .0) (c .before .before .before .before .before .before .turn .ensures .1)
+loop-again-2 c = λ r q. goes-turn _ _ _ _ _ _ r q _ _ _ _ (c .before .before .before .before .before .before .before .before .before .before .before .before .before .before .before .before .before .before .before .before .loop .inv r q) _ _ (looked-up _ _ _ _ _ _ _ _ _ _ _ (crowds-use (c .before .before .before .before .before .before .before .before .before .before .before .before .before .before .before .before .before .before .before .before .before .before .before .before .before .before .args .khmer) _ _ _ _ _ _) (turn-inside (c .before .before .before .before .before .before .before .before .before .before .before .before .before .before .before .before .before .before .before .before .loop .g) (length (c .before .before .before .before .before .before .before .before .before .before .before .before .before .before .before .before .before .before .before .before .before .before .before .before .before .before .args .text .now)) _ _ (c .before .before .before .before .before .before .before .before .before .before .before .before .before .before .before .before .before .before .before .goes-on .ensures) (c .before .before .before .before .before .before .before .before .before .before .before .before .before .before .before .before .before .before .if1 .taken) (c .before .before .before .before .before .before .before .before .before .before .before .before .before .before .before .before .before .is-full .ensures) (c .before .before .before .before .before .before .before .before .before .before .before .before .before .before .before .before .if2 .left)) (c .before .before .before .before .before .before .before .before .before .before .before .before .before .before .before .before .before .is-full .ensures) (c .before .before .before .before .before .before .before .before .before .before .before .before .before .before .before .before .if2 .left) refl (c .before .before .before .before .before .before .before .before .before .before .before .before .before .before .scalar .ensures) (c .before .before .before .before .before .before .before .before .before .before .before .before .cell .ensures) (joins-use (c .before .before .before .before .before .before .before .before .before .before .before .before .before .before .before .before .before .before .before .before .before .before .before .before .before .before .args .khmer)) (c .before .before .before .before .before .before .before .before .before .before .before .before .before .before .before .before .before .before .before .before .before .before .before .before .before .before .pre .0) (index-use (c .before .before .before .before .before .before .before .before .before .before .before .before .before .before .before .before .before .before .before .before .before .before .before .before .before .before .args .khmer) _ _ _ _ _ _ (c .before .before .before .before .before .before .before .before .before .before .before .before .before .use-index .ensures) refl)) _ _ _ _ refl refl refl (c .before .before .before .before .before .before .turn .ensures .0) (c .before .before .before .before .before .before .turn .ensures .1)
 
 stand-requires-2 : tie.Need-stand-requires-2 Inv-loop μ-loop
 stand-requires-2 c κs = search needs
