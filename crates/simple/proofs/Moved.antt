@@ -85,7 +85,7 @@ module _ (text : List ℕ) where
   parted-parts true b c e = absurd (false≢true e)
   parted-parts false b c e = let z = both-of b c e in (refl, z .0, z .1)
 
-  newline-stops : (s : Parse) → going s ≡ true → crowded text (nextIs LF) s ≡ true → run (newlineWith LF) text s ≡ withFlow Stop s
+  pub newline-stops : (s : Parse) → going s ≡ true → crowded text (nextIs LF) s ≡ true → run (newlineWith LF) text s ≡ withFlow Stop s
   unfolding newlineWith run
   newline-stops s g h = run-crowded (nextIs LF) (setSpace Newline) (λ t. Control) text s h ∙ rw g
 
