@@ -24,7 +24,7 @@ impl Parser {
     }
 }
 
-/// The answers of swash 0.2.10, or the same grammar with no character repeated and no record lost.
+/// The answers of swash 0.2.10, or the same grammar with no character repeated, no record lost, and CR and LF in one cluster.
 #[derive(Clone, Copy, Debug, PartialEq, Eq)]
 pub enum Mode {
     Crate,

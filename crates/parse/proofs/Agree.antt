@@ -199,7 +199,6 @@ module _ (text : List ℕ) where
   run-agrees (thrice c) s f = if-intro (λ q. fine q ≡ true → run (thrice c) text (up s) ≡ up q) (going s) _ _
       (λ g h. let r = thriceOf text c s in
       rw g (ap retriedOf (thrice-agrees c s (before (fine r) _ (unless .retried r) h)) ∙ retried-agrees r h)) (λ g h. rw g) f
-
   run-agrees (fit p m u) s f = let t = tokenAt text (s .at) in
       if-intro (λ q. fine q ≡ true → run (fit p m u) text (up s) ≡ up q) (going s) _ _ (λ g h. rw g (fit-agrees p (u t) (m t (s .info)) s h)) (λ g h. rw g) f
 

@@ -77,7 +77,15 @@ fn is_newline(
             return false;
         }
         if i + 1 < scalars.len() {
-            let next = token_at(scalars, breaks, breaks, categories, emojis, selectors, i + 1);
+            let next = token_at(
+                scalars,
+                breaks,
+                breaks,
+                categories,
+                emojis,
+                selectors,
+                i + 1,
+            );
             return token::kind(next) == cluster_break::LF;
         }
         return false;

@@ -303,7 +303,7 @@ together text same p k f e =
     let u : Parse = run start text q in
     let started : Safe text from u = start-safe text from same q prepended (λ g. room (open-going (q .flow) g)) in
     let safe : Safe text from r = subst (λ (z : Parse). Safe text from z) (sym (run-seq _ _ text s ∙ run-seq _ _ text q))
-        (run-safe text from (λ i. Unit {0}) (while isExtension extension) (guard-extensions text from same (λ i. Unit {0})) u (λ g. tt) started) in
+    (run-safe text from (λ i. Unit {0}) (while isExtension extension) (guard-extensions text from same (λ i. Unit {0})) u (λ g. tt) started) in
     by-test (r .done)
     (λ d. let n : length text ≡ k + 1 = ap (λ b. cond b (length text) (r .at)) (sym d) ∙ e in
     no-next (isEmoji text k) (is CR text k) (nextIs LF text k) (ap (λ t. eqb (kindOf t) LF) (List·getD-eq-default text 0 {n = k + 1} (omega (arith, n)))))

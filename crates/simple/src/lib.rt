@@ -36,7 +36,8 @@ fn parse_control(s: Parse, text: &[u64]) -> Parse
         return s.parse_newline(text);
     }
     if s.kind_is(text, CR) {
-        return s.parse_newline_with(text, LF).accept_as(text, LF, Shape::Control);
+        return s.parse_newline_with(text, LF)
+            .accept_as(text, LF, Shape::Control);
     }
     parse_syllable(s, text)
 }
