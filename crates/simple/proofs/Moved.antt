@@ -3,21 +3,26 @@ use Prim.Native.Nat.{ℕ}
 use mathlib.Core.Path.{_≡_, refl, sym, _∙_, ap, subst}
 use mathlib.Core.Bool.{Bool, true, false, cond, false≢true}
 use mathlib.Core.List.{List}
+use native.Mathlib.Omega.{arith}
 use lib.Dec.{eqb}
+use lib.ListN.{length}
 use borrow.Author.Tests.{eqb-true}
 use Rattle.basics.proofs.Tests.{by-test, both-of}
 use Rattle.classes.specs.declared.Mode.{Mode}
 use Rattle.classes.specs.declared.Mode.the-variants.{Crate, Whole}
+use Rattle.classes.specs.declared.Shape.{Shape}
 use Rattle.classes.specs.declared.Shape.the-variants.{Base, Control}
 use Rattle.classes.specs.ClusterBreak.{CN, CR, LF, PP}
 use Rattle.token.specs.Token.{kindOf}
 use Rattle.parse.specs.declared.Parse.{Parse}
 use Rattle.parse.specs.declared.Space.the-variants.{Newline}
-use Rattle.parse.specs.declared.Flow.the-variants.{Stop}
-use Rattle.parse.specs.State.{tokenAt, lastRoom, going, withFlow}
+use Rattle.parse.specs.declared.Flow.the-variants.{Stop, Full}
+use Rattle.parse.specs.State.{tokenAt, filledAt, lastRoom, going, withPlace, withFlow, withInfo, putOf, stepOf, pushOf}
 use Rattle.parse.specs.Rule.{Test, Rule, stop, seq, choose, while, run, crowded, holds, take, acceptAs, manyAs, is, nextIs, isEmoji, setSpace}
 use Rattle.parse.specs.Shared.{newline, newlineWith}
 use Rattle.parse.proofs.Keeps.{run-mode}
+use Rattle.parse.proofs.Moves.{step-stays}
+use Rattle.parse.proofs.Steps.{plus, put-plus, moved-full}
 use Rattle.parse.proofs.Runs.{run-still, run-stays, run-seq, run-then, run-else, run-crowded, run-roomy, holds-going}
 use Rattle.simple.specs.Grammar.{cluster, start, control, syllable, isExtension, extension}
 use Rattle.simple.specs.Before.{clusterBefore, startBefore, controlBefore}
@@ -111,3 +116,43 @@ module _ (text : List ℕ) where
   ends-before s y =
       let q = prepended text s in
       run-seq _ _ text s ∙ run-seq _ _ text q ∙ ap (run (while isExtension extension) text) (start-stops q y) ∙ run-still (while isExtension extension) text (withFlow Stop q) refl
+
+  -- a character taken where 31 are pushed is the last
+  taken-last : (c : Shape) (s : Parse) → s .len ≡ 31 → ((pushOf text c s) .len ≡ 32) × (going (pushOf text c s) ≡ false)
+  unfolding pushOf
+  taken-last c s e =
+      let t = tokenAt text (s .at) in
+      let m = withFlow Full (withPlace (filledAt (s .mode) (length text) (s .at)) (plus t c s)) in
+      let k : stepOf text (putOf t c s) ≡ m = ap (stepOf text) (put-plus t c s (omega (arith, e)))
+      ∙ sym (step-stays text (plus t c s) m (sym (moved-full (length text) (plus t c s) (omega (arith, e)))) refl) in
+      (ap (λ (q : Parse). q .len) k ∙ omega (arith, e), ap going k)
+
+  newline-last : (s : Parse) → going s ≡ true → s .len ≡ 31 → ((run newline text s) .len ≡ 32) × (going (run newline text s) ≡ false)
+  unfolding newline run
+  newline-last s g e = rw g (rw g (taken-last Control (withInfo (setSpace Newline (tokenAt text (s .at)) (s .info)) s) e))
+
+  last-room : (m : Mode) (n : ℕ) → lastRoom m n ≡ true → n ≡ 31
+  last-room Crate n e = absurd (false≢true e)
+  last-room Whole n e = eqb-true n 31 e
+
+  start-filled : (s : Parse) → parted text s ≡ true → ((run startBefore text s) .len ≡ 32) × (going (run startBefore text s) ≡ false)
+  unfolding startBefore controlBefore
+  start-filled s y =
+      let z = parted-parts (holds text isEmoji s) (holds text (is CR) s) (crowded text (nextIs LF) s) y in
+      let room = both-of (lastRoom (s .mode) (s .len)) _ (z .2) in
+      let full = newline-last s (holds-going text (is CR) s (z .1)) (last-room (s .mode) (s .len) (room .0)) in
+      let there : run startBefore text s ≡ run newline text s =
+      run-else isEmoji _ _ text s (z .0) ∙ run-else (is CN) _ _ text s (other-kind CR CN s refl (z .1)) ∙ run-else (is LF) _ _ text s (other-kind CR LF s refl (z .1))
+      ∙ run-then (is CR) _ _ text s (z .1) ∙ run-seq _ _ text s ∙ run-still (acceptAs LF Control) text (run newline text s) (full .1) in
+      (ap (λ (q : Parse). q .len) there ∙ full .0, ap going there ∙ full .1)
+
+  -- And there the old grammar's answer was another: it took CR as the 32nd.
+  pub was-filled : (s : Parse) → parted text (prepended text s) ≡ true → ((run cluster text s) .len ≡ 31) × ((run clusterBefore text s) .len ≡ 32)
+  unfolding clusterBefore
+  was-filled s y =
+      let q = prepended text s in
+      let z = parted-parts (holds text isEmoji q) (holds text (is CR) q) (crowded text (nextIs LF) q) y in
+      let full = start-filled q y in (
+        ap (λ (p : Parse). p .len) (ends-before s y) ∙ last-room (q .mode) (q .len) (both-of (lastRoom (q .mode) (q .len)) _ (z .2) .0),
+        ap (λ (p : Parse). p .len) (run-seq _ _ text s ∙ run-seq _ _ text q ∙ run-still (while isExtension extension) text (run startBefore text q) (full .1)) ∙ full .0,
+      )
