@@ -3,5 +3,6 @@ pub mod Answers
 pub mod Chain
 pub mod Effects
 pub mod Laws
+pub mod Masks
 pub mod Refusals
 pub mod Standing

@@ -1,3 +1,4 @@
+pub mod Masks
 pub mod Refusals
 pub mod Rows
 pub mod Rules
