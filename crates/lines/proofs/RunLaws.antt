@@ -14,7 +14,7 @@ use Rattle.basics.specs.Sets.{any}
 use Rattle.basics.proofs.Columns.{cells-length}
 use Rattle.classes.specs.WordBreak as WordBreak
 use Rattle.records.specs.Text.{cell}
-use Rattle.records.specs.Refusals.{refusal, refuse, over, most, tooLong, uneven, outside, coded, mark, judgeLengths, judgeWord, wordVerdict}
+use Rattle.records.specs.Refusals.{refusal, refuse, over, most, tooLong, uneven, outside, coded, mark, judgeLengths, judgeMarked, markedVerdict, wordVerdict}
 use Rattle.records.specs.declared.Side.the-variants.{Record, Neither}
 use Rattle.records.specs.declared.Refusal.{Refusal}
 use Rattle.records.specs.declared.Verdict.{Verdict}
@@ -61,8 +61,8 @@ check-listed table lines words pictographs v t u e h f g k l = listed-checked li
 
 -- # What acceptance gives
 
-word-less : (line word pictograph i : ℕ) → judgeRecord line word pictograph i ≡ Accepted → judgeWord word pictograph i ≡ Accepted
-unfolding judgeRecord judgeWord
+word-less : (line word pictograph i : ℕ) → judgeRecord line word pictograph i ≡ Accepted → judgeMarked WordBreak.len word pictograph i ≡ Accepted
+unfolding judgeRecord judgeMarked
 word-less line word pictograph i h =
     let o : outside (coded word WordBreak.len ∷ mark pictograph ∷ []) ≡ false =
     neither (leb LineBreak.len line) (outside (coded word WordBreak.len ∷ mark pictograph ∷ [])) (unrefused _ 4 Record i h) .1 in
@@ -108,9 +108,9 @@ module _ (table lines words pictographs : List ℕ) (accepted : checkVerdict tab
   one-length = second (length lines) (length words) (length pictographs) (check-passes .0)
 
   pub words-accepted : wordVerdict words pictographs ≡ Accepted
-  unfolding wordVerdict
+  unfolding markedVerdict
   words-accepted =
-      let o = each-over (λ i. judgeWord (cell words i) (cell pictographs i) i) (length lines) 0
+      let o = each-over (λ i. judgeMarked WordBreak.len (cell words i) (cell pictographs i) i) (length lines) 0
       (λ k l h. word-less (cell lines k) (cell words k) (cell pictographs k) k (over-each (λ i. judgeRecord (cell lines i) (cell words i) (cell pictographs i) i) (length lines) 0 (check-passes .1 .1) k l h)) in
       rw (two-pass (length lines) (length words) (length pictographs) (check-passes .0), one-length) o
 

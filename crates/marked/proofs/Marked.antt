@@ -36,7 +36,7 @@ Parted parser mode =
     × (((Calls.nextOf (standing parser mode 0) (pair parser)) .state) .place .at ≡ 1)
 
 computed : (map (map given) (readings ∷ table) ≡ map (map told) (readings ∷ table)) × ((parser : Parser) (mode : Mode) → Parted parser mode)
-unfolding given told textFor stepping answersOf chars Refusals.over Refusals.badScalar Refusals.badRun Refusals.barred Refusals.isSplit Refusals.badSign Refusals.judgePart Refusals.judgeRecord Refusals.judgeSign Refusals.judgeParts Refusals.judgeRecords Refusals.judgeSigns Refusals.judgeLengths Refusals.verdict Refusals.judgeWord Refusals.wordVerdict Tokens.partTokens Tokens.itself Tokens.split Tokens.gather Tokens.streamOf Tokens.fetchIn Tokens.pieceCount Tokens.countFrom State.emptyCluster State.atMost State.loop State.stepOf State.pushOf State.noteOf Rule.thriceOf Rule.run Rule.either Rule.oneOf Shared.emojiMark Shared.emojiExtension Shared.emojiTurn Shared.emojis Shared.newline Shared.newlineWith Shared.otherArm Simple-rules.isExtension Simple-rules.combining Simple-rules.extend Simple-rules.extension Simple-rules.leading Simple-rules.vowel Simple-rules.trailing Simple-rules.other Simple-rules.syllable Simple-rules.control Simple-rules.start Simple-rules.cluster Myanmar-rules.isKinzi Myanmar-rules.acceptWithAs Myanmar-rules.stacked Myanmar-rules.postBaseVowel Myanmar-rules.pwoToneMark Myanmar-rules.medials Myanmar-rules.vowels Myanmar-rules.finals Myanmar-rules.base Myanmar-rules.kinzi Myanmar-rules.syllable Myanmar-rules.isAlone Myanmar-rules.cluster Complex-rules.given Complex-rules.byKind Complex-rules.baseVs Complex-rules.symbolMarks Complex-rules.consonantMarks Complex-rules.isCoeng Complex-rules.halant Complex-rules.opensHalant Complex-rules.halantBase Complex-rules.isVowelModifier Complex-rules.vowelModifier Complex-rules.medials Complex-rules.vowels Complex-rules.finals Complex-rules.syllable Complex-rules.markedSyllable Complex-rules.isSymbolMark Complex-rules.standardTail Complex-rules.standard Complex-rules.halantNumber Complex-rules.number Complex-rules.symbol Complex-rules.letter Complex-rules.cluster Calls.grammar Calls.called Calls.refused Calls.end Calls.found Calls.answerIn Calls.nextOf Rules.pairRules Rules.letterRules Rules.numberRules Rules.flagRules Rules.exitOf Rules.leaves Run.nextAt Run.stateAt Run.answerAt cells Run.runVerdict
+unfolding given told textFor stepping answersOf chars Refusals.over Refusals.badScalar Refusals.badRun Refusals.barred Refusals.isSplit Refusals.badSign Refusals.judgePart Refusals.judgeRecord Refusals.judgeSign Refusals.judgeParts Refusals.judgeRecords Refusals.judgeSigns Refusals.judgeLengths Refusals.verdict Refusals.judgeMarked Refusals.markedVerdict Tokens.partTokens Tokens.itself Tokens.split Tokens.gather Tokens.streamOf Tokens.fetchIn Tokens.pieceCount Tokens.countFrom State.emptyCluster State.atMost State.loop State.stepOf State.pushOf State.noteOf Rule.thriceOf Rule.run Rule.either Rule.oneOf Shared.emojiMark Shared.emojiExtension Shared.emojiTurn Shared.emojis Shared.newline Shared.newlineWith Shared.otherArm Simple-rules.isExtension Simple-rules.combining Simple-rules.extend Simple-rules.extension Simple-rules.leading Simple-rules.vowel Simple-rules.trailing Simple-rules.other Simple-rules.syllable Simple-rules.control Simple-rules.start Simple-rules.cluster Myanmar-rules.isKinzi Myanmar-rules.acceptWithAs Myanmar-rules.stacked Myanmar-rules.postBaseVowel Myanmar-rules.pwoToneMark Myanmar-rules.medials Myanmar-rules.vowels Myanmar-rules.finals Myanmar-rules.base Myanmar-rules.kinzi Myanmar-rules.syllable Myanmar-rules.isAlone Myanmar-rules.cluster Complex-rules.given Complex-rules.byKind Complex-rules.baseVs Complex-rules.symbolMarks Complex-rules.consonantMarks Complex-rules.isCoeng Complex-rules.halant Complex-rules.opensHalant Complex-rules.halantBase Complex-rules.isVowelModifier Complex-rules.vowelModifier Complex-rules.medials Complex-rules.vowels Complex-rules.finals Complex-rules.syllable Complex-rules.markedSyllable Complex-rules.isSymbolMark Complex-rules.standardTail Complex-rules.standard Complex-rules.halantNumber Complex-rules.number Complex-rules.symbol Complex-rules.letter Complex-rules.cluster Calls.grammar Calls.called Calls.refused Calls.end Calls.found Calls.answerIn Calls.nextOf Rules.pairRules Rules.letterRules Rules.numberRules Rules.flagRules Rules.exitOf Rules.leaves Run.nextAt Run.stateAt Run.answerAt cells Run.runVerdict
 computed = (refl, parted)
   where
     parted : (parser : Parser) (mode : Mode) → Parted parser mode

@@ -1,11 +1,12 @@
 -- What the check says is what the table of SCOPE 5.1 says, and so is what every call says that begins with it and then looks for lines of
--- its own; the same of the word run's own check. Assumes nothing.
+-- its own; the same of a run over two columns, as the word run is. Assumes nothing.
 use Prim.Native.Nat.{ℕ, zero, suc, _+_, _<_}
 use mathlib.Core.Path.{_≡_, refl, sym, _∙_, ap, subst}
 use mathlib.Core.Bool.{Bool, true, false, cond, _&&_, _||_, or-false, false≢true}
 use mathlib.Core.List.{List, [], _∷_}
 use mathlib.Core.Logic.{_⊎_, inl, inr, ⊎-elim}
 use native.Mathlib.Omega.{arith}
+use lib.Dec.{ltb}
 use lib.ListN.{length}
 use Rattle.basics.proofs.Tests.{both, either}
 use Rattle.records.specs.Text.{Text, cell, rowOf, partOf, recordLengths, partLengths}
@@ -17,8 +18,10 @@ use Rattle.records.specs.declared.Parser.{Parser}
 use Rattle.records.specs.declared.Parser.the-variants.{Simple, Myanmar, Complex, Khmer}
 use Rattle.records.specs.declared.Verdict.{Verdict}
 use Rattle.records.specs.declared.Verdict.the-variants.{Accepted, Refused}
-use Rattle.records.specs.Refusals.{isComplex, isKhmer, refusal, refuse, _⊳_, over, tooLong, uneven, badScalar, outside, partCodes, recordClasses, recordMarks, badRun, barred, judgePart, judgeRecord, judgeSign, judgeSignAt, judgeParts, judgeRecords, judgeSigns, judgeLengths, verdict, judgeWord, wordVerdict}
-use Rattle.records.specs.Offences.{Line, breaks, rank, Offends, Judges, ByTable, Asks, partLines, recordLines, lengthLines, badSignAt, someFrom, signLine, tableOf, wordLines, wordTableOf}
+use Rattle.records.specs.Refusals.{isComplex, isKhmer, refusal, refuse, _⊳_, over, tooLong, uneven, badScalar, outside, partCodes, recordClasses, recordMarks, badRun, barred, judgePart, judgeRecord, judgeSign, judgeSignAt, judgeParts, judgeRecords, judgeSigns, judgeLengths, verdict, judgeMarked, markedVerdict, wordVerdict}
+use Rattle.records.specs.Written.{roomy}
+use Rattle.classes.specs.WordBreak as WordBreak
+use Rattle.records.specs.Offences.{Line, breaks, rank, Offends, Judges, ByTable, Asks, partLines, recordLines, lengthLines, badSignAt, someFrom, signLine, tableOf, markedLines, markedTableOf, roomLine, wordTableOf}
 use Rattle.records.proofs.Tables.{fits, inOrder, broken-fits, firstLine, firstOf, Ordered, by-table}
 
 -- # Verdicts one after the other
@@ -143,23 +146,36 @@ pub check-by-table : (parser : Parser) (t : Text) → ByTable (1 ∷ 2 ∷ 3 ∷
 check-by-table parser t =
     call-by-table _ parser t [] (record { before = refl; parts = λ i. refl; records = λ i. refl; after = refl }) (verdict parser t) (sym (alone (verdict parser t)))
 
--- # The word run's own check
+-- # A run over two columns, the classes of one list and marks
 
-word-lines : (words pictographs : List ℕ) (i : ℕ) → firstLine (wordLines words pictographs i) Record i ≡ judgeWord (cell words i) (cell pictographs i) i
-unfolding judgeWord
-word-lines words pictographs i = alone _
+module _ (len : ℕ) (classes marks : List ℕ) where
+  marked-lines : (i : ℕ) → firstLine (markedLines len classes marks i) Record i ≡ judgeMarked len (cell classes i) (cell marks i) i
+  unfolding judgeMarked
+  marked-lines i = alone _
 
-pub word-table-first : (words pictographs : List ℕ) (more : List Line) → firstOf (wordTableOf words pictographs more) ≡ wordVerdict words pictographs ⊳ firstLine more Neither 0
-unfolding wordVerdict over
-word-table-first words pictographs more =
-    rw (
-      length-lines (length words ∷ length pictographs ∷ []) [],
-      over-same (λ i. firstLine (wordLines words pictographs i) Record i) (λ i. judgeWord (cell words i) (cell pictographs i) i) (word-lines words pictographs) (length words) 0,
-    )
-    (sym (then-assoc (judgeLengths (length words ∷ length pictographs ∷ []) []) (over (λ i. judgeWord (cell words i) (cell pictographs i) i) 0 (length words)) (firstLine more Neither 0)))
+  marked-table-first : (more : List Line) → firstOf (markedTableOf len classes marks more) ≡ markedVerdict len classes marks ⊳ firstLine more Neither 0
+  unfolding markedVerdict over
+  marked-table-first more =
+      rw (
+        length-lines (length classes ∷ length marks ∷ []) [],
+        over-same (λ i. firstLine (markedLines len classes marks i) Record i) (λ i. judgeMarked len (cell classes i) (cell marks i) i) marked-lines (length classes) 0,
+      )
+      (sym (then-assoc (judgeLengths (length classes ∷ length marks ∷ []) []) (over (λ i. judgeMarked len (cell classes i) (cell marks i) i) 0 (length classes)) (firstLine more Neither 0)))
+
+  -- Its check says what the table says: 1, 2 and 4.
+  pub marked-by-table : ByTable (1 ∷ 2 ∷ 4 ∷ []) (markedTableOf len classes marks []) (markedVerdict len classes marks)
+  marked-by-table =
+      by-table _ (markedTableOf len classes marks []) (record { before = refl; parts = λ i. refl; records = λ i. refl; after = refl }) (markedVerdict len classes marks)
+      (sym (marked-table-first [] ∙ alone (markedVerdict len classes marks)))
+
+  -- The run too: 1, 2, 4 and 9.
+  pub marked-run-by-table : (room : ℕ) → ByTable (1 ∷ 2 ∷ 4 ∷ 9 ∷ []) (markedTableOf len classes marks (roomLine classes room ∷ [])) (roomy (markedVerdict len classes marks) (length classes) room)
+  marked-run-by-table room =
+      by-table _ (markedTableOf len classes marks (roomLine classes room ∷ [])) (record { before = refl; parts = λ i. refl; records = λ i. refl; after = refl })
+      (roomy (markedVerdict len classes marks) (length classes) room)
+      (ap (λ v. markedVerdict len classes marks ⊳ v) (sym (alone (refuse (ltb room (length classes)) 9 Neither 0)))
+      ∙ sym (marked-table-first (roomLine classes room ∷ [])))
 
 -- The same of the word run's own check.
 pub check-words-by-table : (words pictographs : List ℕ) → ByTable (1 ∷ 2 ∷ 4 ∷ []) (wordTableOf words pictographs []) (wordVerdict words pictographs)
-check-words-by-table words pictographs =
-    by-table _ (wordTableOf words pictographs []) (record { before = refl; parts = λ i. refl; records = λ i. refl; after = refl }) (wordVerdict words pictographs)
-    (sym (word-table-first words pictographs [] ∙ alone (wordVerdict words pictographs)))
+check-words-by-table words pictographs = marked-by-table WordBreak.len words pictographs

@@ -4,3 +4,4 @@ pub mod Numbers
 pub mod Offences
 pub mod Sound
 pub mod Text
+pub mod Written

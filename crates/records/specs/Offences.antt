@@ -162,19 +162,27 @@ tableOf parser t more =
       after = signLine parser t ∷ more;
     }
 
--- # The word run's table
+-- # The table of a run over two columns, the classes of one list and marks
 
-abbrev pub wordLines : List ℕ → List ℕ → ℕ → List Line
-wordLines words pictographs i = line 4 (outside (coded (cell words i) WordBreak.len ∷ mark (cell pictographs i) ∷ [])) ∷ []
+abbrev pub markedLines : ℕ → List ℕ → List ℕ → ℕ → List Line
+markedLines len classes marks i = line 4 (outside (coded (cell classes i) len ∷ mark (cell marks i) ∷ [])) ∷ []
+
+-- with the lines that a call adds: 9
+abbrev pub markedTableOf : ℕ → List ℕ → List ℕ → List Line → Table
+markedTableOf len classes marks more =
+    record {
+      before = lengthLines (length classes ∷ length marks ∷ []) [];
+      parts = 0;
+      ofPart = λ i. [];
+      records = length classes;
+      ofRecord = markedLines len classes marks;
+      after = more;
+    }
+
+-- 9: "fewer than 1 for each record"
+abbrev pub roomLine : List ℕ → ℕ → Line
+roomLine classes room = line 9 (ltb room (length classes))
 
 -- the word run, "over the columns word class and pictograph alone": 1, 2, 4, 9 (SCOPE 5.5); 9 is the run's own
 abbrev pub wordTableOf : List ℕ → List ℕ → List Line → Table
-wordTableOf words pictographs more =
-    record {
-      before = lengthLines (length words ∷ length pictographs ∷ []) [];
-      parts = 0;
-      ofPart = λ i. [];
-      records = length words;
-      ofRecord = wordLines words pictographs;
-      after = more;
-    }
+wordTableOf words pictographs more = markedTableOf WordBreak.len words pictographs more

@@ -1,4 +1,5 @@
 // The check by columns: whether nothing but a sign can be refused. A text that fails here is judged record by record.
+use crate::MOST;
 use crate::cells::joined;
 use crate::cells::length32;
 use crate::judge::bad_scalar;
@@ -13,6 +14,8 @@ ghost use mathlib.Core.Bool.{true, false};
 ghost use Prim.Native.Nat.{_+_, _≤_};
 ghost use lib.Dec.{leb};
 ghost use Rattle.records.specs.Text.{lent};
+ghost use Rattle.records.specs.Refusals.{markedVerdict};
+ghost use Rattle.records.specs.declared.Verdict.the-variants.{Accepted};
 ghost use Rattle.records.specs.Sweep.{AtMost, CleanScalar, CleanScalars, Below, EndsBy, Passes};
 
 // What each column of bytes stays below; 4 for the counts of parts.
@@ -149,4 +152,28 @@ pub fn passes<'s, 'a>(
         return false;
     }
     ends_by(firsts, bytes[11], length32(wides[1]))
+}
+
+// Whether nothing can be refused of a column of classes, of a list of this length, and one of marks.
+pub fn is_clean(len: u8, classes: &[u8], marks: &[u8]) -> bool
+    ensures { λ r. ⌜ (r ≡ true → markedVerdict len (now (classes .entry)) (now (marks .entry)) ≡ Accepted) ⌝ }
+{
+    if MOST < classes.len() {
+        return false;
+    }
+    if marks.len() != classes.len() {
+        return false;
+    }
+    let mut class: u8 = 0;
+    let mut mark: u8 = 0;
+    let mut i: usize = 0;
+    while i < classes.len() {
+        class = larger8(class, classes[i]);
+        mark = larger8(mark, marks[i]);
+        i += 1;
+    }
+    if len <= class {
+        return false;
+    }
+    mark < 2
 }

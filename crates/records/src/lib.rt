@@ -1,23 +1,27 @@
-// The check of a lent text: refusals 1 to 7 (SCOPE 5.1), in their order, and the word run's own check. Every call of the
-// library begins with one of the two and hands a refusal out unchanged.
+// The check of a lent text: refusals 1 to 7 (SCOPE 5.1), in their order, and the check of the runs over two columns, as the word
+// run is. Every call of the library begins with one of the two and hands a refusal out unchanged.
 pub mod cells;
 mod columns;
 mod judge;
 mod sets;
 
+use classes::word_break;
+use columns::is_clean;
 use columns::passes;
+pub use judge::is_bad_marked;
 pub use judge::is_khmer;
 pub use judge::is_outside;
 pub use judge::is_sign;
 use judge::judge_lengths;
+pub use judge::judge_room;
 pub use judge::refused;
+use sets::judge_all_marked;
 use sets::judge_each;
 use sets::judge_shape;
 use sets::judge_signs;
-use sets::judge_words;
 ghost use mathlib.Core.Path.{_≡_};
 ghost use Rattle.records.specs.Text.{textOf, lent};
-ghost use Rattle.records.specs.Refusals.{verdict, wordVerdict};
+ghost use Rattle.records.specs.Refusals.{verdict, markedVerdict, wordVerdict};
 ghost use Rattle.records.specs.Numbers.{sideCode, parserCode};
 
 // What a refusal's index counts.
@@ -167,13 +171,30 @@ pub fn check<'a>(
     check_in(parser, &wides, &bytes, firsts)
 }
 
+fn check_each(len: u8, classes: &[u8], marks: &[u8]) -> Verdict
+    ensures { λ r. ⌜ r ≡ markedVerdict len (now (classes .entry)) (now (marks .entry)) ⌝ }
+{
+    let shape = judge_lengths(&[classes.len(), marks.len()], &[]);
+    let Verdict::Accepted = shape else {
+        return shape;
+    };
+    judge_all_marked(len, classes, marks)
+}
+
+// The verdict on two columns, the classes of one list, of this length, and marks: both are looked through in one loop without a branch,
+// and only where something is found does the exact check name it.
+pub fn check_marked(len: u8, classes: &[u8], marks: &[u8]) -> Verdict
+    ensures { λ r. ⌜ r ≡ markedVerdict len (now (classes .entry)) (now (marks .entry)) ⌝ }
+{
+    if is_clean(len, classes, marks) {
+        return Verdict::Accepted;
+    }
+    check_each(len, classes, marks)
+}
+
 // The verdict on the two columns of a word run.
 pub fn check_words(words: &[u8], pictographs: &[u8]) -> Verdict
     ensures { λ r. ⌜ r ≡ wordVerdict (now (words .entry)) (now (pictographs .entry)) ⌝ }
 {
-    let shape = judge_lengths(&[words.len(), pictographs.len()], &[]);
-    let Verdict::Accepted = shape else {
-        return shape;
-    };
-    judge_words(words, pictographs)
+    check_marked(word_break::LEN, words, pictographs)
 }

@@ -10,14 +10,14 @@ use crate::cells::length32;
 use crate::cells::wide;
 use crate::judge::is_khmer;
 use crate::judge::judge_lengths;
+use crate::judge::judge_marked;
 use crate::judge::judge_part;
 use crate::judge::judge_record;
 use crate::judge::judge_sign;
-use crate::judge::judge_word;
 ghost use mathlib.Core.Path.{_≡_};
 ghost use lib.ListN.{length};
 ghost use Rattle.records.specs.Text.{rowOf, partOf, cell, recordLengths, partLengths, lent};
-ghost use Rattle.records.specs.Refusals.{over, judgeWord, judgePart, judgeParts, judgeRecord, judgeRecords, judgeSignAt, judgeSigns, judgeLengths};
+ghost use Rattle.records.specs.Refusals.{over, judgeMarked, judgePart, judgeParts, judgeRecord, judgeRecords, judgeSignAt, judgeSigns, judgeLengths};
 ghost use Rattle.records.specs.Sweep.{eachVerdict};
 
 pub fn part_row<'s, 'a>(
@@ -233,18 +233,18 @@ pub fn judge_shape<'s, 'a>(
     )
 }
 
-pub fn judge_word_at(words: &[u8], pictographs: &[u8], i: usize) -> Verdict
-    ensures { λ r. ⌜ r ≡ judgeWord (cell (now (words .entry)) i) (cell (now (pictographs .entry)) i) i ⌝ }
+pub fn judge_marked_at(len: u8, classes: &[u8], marks: &[u8], i: usize) -> Verdict
+    ensures { λ r. ⌜ r ≡ judgeMarked len (cell (now (classes .entry)) i) (cell (now (marks .entry)) i) i ⌝ }
 {
-    judge_word(cell8(words, i), cell8(pictographs, i), i)
+    judge_marked(len, cell8(classes, i), cell8(marks, i), i)
 }
 
-pub fn judge_words(words: &[u8], pictographs: &[u8]) -> Verdict
-    ensures { λ r. ⌜ r ≡ over (λ i. judgeWord (cell (now (words .entry)) i) (cell (now (pictographs .entry)) i) i) 0 (length (now (words .entry))) ⌝ }
+pub fn judge_all_marked(len: u8, classes: &[u8], marks: &[u8]) -> Verdict
+    ensures { λ r. ⌜ r ≡ over (λ i. judgeMarked len (cell (now (classes .entry)) i) (cell (now (marks .entry)) i) i) 0 (length (now (classes .entry))) ⌝ }
 {
     let mut i: usize = 0;
-    while i < words.len() {
-        let v = judge_word_at(words, pictographs, i);
+    while i < classes.len() {
+        let v = judge_marked_at(len, classes, marks, i);
         let Verdict::Accepted = v else {
             return v;
         };

@@ -9,7 +9,6 @@ use native.Mathlib.Numerals.{add-one}
 use lib.Dec.{ltb}
 use lib.ListN.{length, List·getD-eq-default}
 use borrow.Author.Tests.{lt-leb, le-ltb, ltb-false}
-use Rattle.basics.proofs.Columns.{written-cell, kept-cell}
 use Rattle.classes.specs.WordBreak as WordBreak
 use Rattle.records.specs.Text.{cell}
 use Rattle.records.specs.Refusals.{wordVerdict}
@@ -17,6 +16,7 @@ use Rattle.records.specs.declared.Refusal.{Refusal}
 use Rattle.records.specs.declared.Verdict.{Verdict}
 use Rattle.records.specs.declared.Verdict.the-variants.{Accepted, Refused}
 use Rattle.records.proofs.Unique.{unique}
+use Rattle.records.proofs.Written as Written
 use Rattle.words.specs.declared.WordState.{WordState}
 use Rattle.words.specs.declared.WordStep.{WordStep}
 use Rattle.words.specs.declared.Next.{Next}
@@ -24,7 +24,8 @@ use Rattle.words.specs.declared.Next.the-variants.{Class, End}
 use Rattle.words.specs.Rules.{exitOf, leaves, ruled}
 use Rattle.words.specs.Step.{badState, stepVerdict, stepOf}
 use Rattle.words.specs.Run.{nextAt, stepFrom, stateAt, answerAt, runVerdict, runCells}
-use Rattle.words.proofs.Accepted.{fine, fine-class, fine-next}
+use Rattle.records.proofs.Marks.{fine, fine-class}
+use Rattle.words.proofs.Accepted.{fine-next}
 use Rattle.words.proofs.Effects.{leaves-bit, leaves-class, leaves-accepts, leaves-small, exit-small}
 
 -- WB1: the answer is 1, of any state that is first, whatever comes, and so of every run.
@@ -59,7 +60,7 @@ module _ (words pictographs : List ℕ) (accepted : wordVerdict words pictograph
   unfolding stateAt
   state-class zero h = omega arith
   state-class (suc i) h =
-      leaves-class WordBreak.len (stateAt words pictographs i) (cell words i) _ (state-class i (omega arith)) (fine-class words pictographs accepted i (omega arith))
+      leaves-class WordBreak.len (stateAt words pictographs i) (cell words i) _ (state-class i (omega arith)) (fine-class WordBreak.len words pictographs accepted i (omega arith))
 
   -- The run never meets refusal 8: its state is never a bad one.
   pub state-good : (i : ℕ) → i ≤ length words → badState (stateAt words pictographs i) ≡ false
@@ -67,7 +68,7 @@ module _ (words pictographs : List ℕ) (accepted : wordVerdict words pictograph
 
   step-accepts : (i : ℕ) → i < length words → stepVerdict (stateAt words pictographs i) (cell words i) (cell pictographs i) (nextAt words (i + 1)) ≡ Accepted
   unfolding stepVerdict
-  step-accepts i h = rw (fine words pictographs accepted i h .0, fine words pictographs accepted i h .1, fine-next words pictographs accepted (i + 1), state-good i (omega arith))
+  step-accepts i h = rw (fine WordBreak.len words pictographs accepted i h .0, fine WordBreak.len words pictographs accepted i h .1, fine-next words pictographs accepted (i + 1), state-good i (omega arith))
 
   -- The run is the fold of the step: the public step, refusals and all, leads from the state before a record to the one after it
   -- and gives the run's answer.
@@ -125,15 +126,13 @@ module _ (words words′ pictographs pictographs′ : List ℕ) where
 -- The cells after a run: with a refusal as they were, else a record's cell has its answer, and a cell past the records is as it was.
 module _ (words pictographs out : List ℕ) where
   pub refused-keeps : (r : Refusal) → runVerdict words pictographs (length out) ≡ Refused r → runCells words pictographs out ≡ out
-  refused-keeps r e = rw e
+  refused-keeps r e = Written.refused-keeps (answerAt words pictographs) (length words) out (runVerdict words pictographs (length out)) r e
 
   pub record-cell : (i : ℕ) → i < length words → runVerdict words pictographs (length out) ≡ Accepted → cell (runCells words pictographs out) i ≡ answerAt words pictographs i
-  record-cell i h e =
-      rw e (written-cell (answerAt words pictographs) out (length words) i h)
+  record-cell i h e = Written.record-cell (answerAt words pictographs) (length words) out (runVerdict words pictographs (length out)) i h e
 
   pub later-cell : (k : ℕ) → runVerdict words pictographs (length out) ≡ Accepted → cell (runCells words pictographs out) (length words + k) ≡ cell out (length words + k)
-  later-cell k e =
-      rw e (kept-cell (answerAt words pictographs) out (length words) k)
+  later-cell k e = Written.later-cell (answerAt words pictographs) (length words) out (runVerdict words pictographs (length out)) k e
 
 -- no two results fulfil the contracts (SCOPE 10)
 pub word-step-unique : (s : WordState) (class pictograph : ℕ) (next : Next) (a b : WordStep) → a ≡ stepOf s class pictograph next → b ≡ stepOf s class pictograph next → a ≡ b
@@ -145,4 +144,4 @@ module _ (words pictographs out : List ℕ) where
   WordRan r out′ = (r ≡ runVerdict words pictographs (length out)) × (out′ ≡ runCells words pictographs out)
 
   pub word-run-unique : (r q : Verdict) (out′ out″ : List ℕ) → WordRan r out′ → WordRan q out″ → (r ≡ q) × (out′ ≡ out″)
-  word-run-unique r q out′ out″ a b = (unique _ r q (a .0) (b .0), unique _ out′ out″ (a .1) (b .1))
+  word-run-unique r q out′ out″ a b = Written.ran-unique (answerAt words pictographs) (length words) out (runVerdict words pictographs (length out)) r q out′ out″ a b

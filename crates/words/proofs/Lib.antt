@@ -1,5 +1,4 @@
 pub mod Accepted
-pub mod Answers
 pub mod Chain
 pub mod Effects
 pub mod Laws

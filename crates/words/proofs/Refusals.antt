@@ -1,20 +1,19 @@
 -- The refusals of the word run and of the word step: each says what the table of SCOPE 5.1 says. Assumes nothing.
 use Prim.Native.Nat.{ℕ}
-use mathlib.Core.Path.{_≡_, refl, sym, _∙_, ap}
+use mathlib.Core.Path.{_≡_, refl, _∙_}
 use mathlib.Core.Bool.{Bool, true, false}
 use mathlib.Core.List.{List, [], _∷_}
-use lib.Dec.{ltb}
-use lib.ListN.{length}
-use Rattle.records.specs.Refusals.{refuse, _⊳_, over, wordVerdict}
-use Rattle.records.specs.Offences.{wordTableOf, ByTable}
+use Rattle.classes.specs.WordBreak as WordBreak
+use Rattle.records.specs.Refusals.{refuse, _⊳_, over}
+use Rattle.records.specs.Offences.{wordTableOf, roomLine, ByTable}
 use Rattle.records.specs.declared.Side.the-variants.{Record, Neither}
 use Rattle.records.specs.declared.Verdict.{Verdict}
 use Rattle.records.specs.declared.Verdict.the-variants.{Accepted, Refused}
 use Rattle.records.proofs.Tables.{firstOf, by-table}
-use Rattle.records.proofs.Judged.{alone, word-table-first}
+use Rattle.records.proofs.Judged.{marked-run-by-table}
 use Rattle.words.specs.declared.WordState.{WordState}
 use Rattle.words.specs.declared.Next.{Next}
-use Rattle.words.specs.Refusals.{roomLine, stepTable}
+use Rattle.words.specs.Refusals.{stepTable}
 use Rattle.words.specs.Rules.{exitOf}
 use Rattle.words.specs.Step.{badRecord, badState, stepVerdict, stepUnder, stepOf}
 use Rattle.words.specs.Run.{runVerdict}
@@ -23,11 +22,7 @@ use Rattle.words.proofs.Effects.{leaves-accepts}
 -- The run's refusals: 1, 2, 4 and 9.
 pub word-run-by-table : (words pictographs : List ℕ) (cells : ℕ) → ByTable (1 ∷ 2 ∷ 4 ∷ 9 ∷ []) (wordTableOf words pictographs (roomLine words cells ∷ [])) (runVerdict words pictographs cells)
 unfolding runVerdict
-word-run-by-table words pictographs cells =
-    by-table _ (wordTableOf words pictographs (roomLine words cells ∷ [])) (record { before = refl; parts = λ i. refl; records = λ i. refl; after = refl })
-    (runVerdict words pictographs cells)
-    (ap (λ v. wordVerdict words pictographs ⊳ v) (sym (alone (refuse (ltb cells (length words)) 9 Neither 0)))
-    ∙ sym (word-table-first words pictographs (roomLine words cells ∷ [])))
+word-run-by-table words pictographs cells = marked-run-by-table WordBreak.len words pictographs cells
 
 module _ (s : WordState) (class pictograph : ℕ) (next : Next) where
   step-lines : stepVerdict s class pictograph next ≡ firstOf (stepTable s class pictograph next)

@@ -25,7 +25,8 @@ use Rattle.words.specs.Run.{nextAt, stepFrom, stateAt, answerAt}
 use Rattle.words.specs.Step.{startState, nextCodes}
 use Rattle.words.specs.Rows.{groupOf, symbolOf, rowAfter, answerOf}
 use Rattle.words.specs.Table.{wordGroups, wordSymbols, wordNexts, wordAnswers, wordRows}
-use Rattle.words.proofs.Accepted.{fine-class, fine-mark, fine-next}
+use Rattle.records.proofs.Marks.{fine-class, fine-mark}
+use Rattle.words.proofs.Accepted.{fine-next}
 
 -- # The states of a run, by number: the start, one behind each class, RI with a count of 1 and of 2, the five that hold a boundary back
 
@@ -198,12 +199,12 @@ module _ (words pictographs : List ℕ) (accepted : wordVerdict words pictograph
   here =
       rw (es, ew, ep, eg)
       (step-turned (stateAt words pictographs i) row stands (cell words i) (cell pictographs i) (nextAt words (i + 1))
-      (fine-class words pictographs accepted i inside) (fine-mark words pictographs accepted i inside) (fine-next words pictographs accepted (i + 1)))
+      (fine-class len words pictographs accepted i inside) (fine-mark len words pictographs accepted i inside) (fine-next words pictographs accepted (i + 1)))
 
   pub turn-symbol : symbol < 32
   turn-symbol =
       let e : symbol ≡ symbolOf (cell words i) (cell pictographs i) group = es ∙ rw (ew, ep) in
-      symbol-small (cell words i) (cell pictographs i) group symbol (fine-class words pictographs accepted i inside) (fine-mark words pictographs accepted i inside)
+      symbol-small (cell words i) (cell pictographs i) group symbol (fine-class len words pictographs accepted i inside) (fine-mark len words pictographs accepted i inside)
       (group-small (nextAt words (i + 1)) group (fine-next words pictographs accepted (i + 1)) eg) e
 
   pub turn-stands : (after : ℕ) → after ≡ rowAfter symbol row → Stands (stateAt words pictographs (i + 1)) after

@@ -1,15 +1,14 @@
 -- The word run: the step over two columns from the start state on.
 use Prim.Native.Nat.{ℕ, zero, suc, _+_}
 use mathlib.Core.Bool.{cond}
-use mathlib.Core.List.{List, _++_}
+use mathlib.Core.List.{List}
 use lib.Dec.{ltb}
-use lib.ListN.{length, drop}
+use lib.ListN.{length}
 use Rattle.basics.specs.Columns.{cells}
 use Rattle.records.specs.Text.{cell}
-use Rattle.records.specs.Refusals.{refuse, _⊳_, wordVerdict}
-use Rattle.records.specs.declared.Side.the-variants.{Neither}
+use Rattle.records.specs.Refusals.{wordVerdict}
+use Rattle.records.specs.Written.{roomy, writtenUnder}
 use Rattle.records.specs.declared.Verdict.{Verdict}
-use Rattle.records.specs.declared.Verdict.the-variants.{Accepted, Refused}
 use Rattle.words.specs.declared.WordState.{WordState}
 use Rattle.words.specs.declared.WordStep.{WordStep}
 use Rattle.words.specs.declared.Next.{Next}
@@ -40,12 +39,11 @@ answers words pictographs = cells (answerAt words pictographs)
 
 -- the word run, "over the columns word class and pictograph alone": 1, 2, 4, 9 (SCOPE 5.5); 9 is "fewer than 1 for each record"
 unfoldable pub runVerdict : List ℕ → List ℕ → ℕ → Verdict
-runVerdict words pictographs cells = wordVerdict words pictographs ⊳ refuse (ltb cells (length words)) 9 Neither 0
+runVerdict words pictographs room = roomy (wordVerdict words pictographs) (length words) room
 
 -- "Cells after the last record stay as they were" (SCOPE 7.3), and with a refusal all of them
 abbrev pub cellsUnder : Verdict → List ℕ → List ℕ → List ℕ → List ℕ
-cellsUnder Accepted words pictographs out = answers words pictographs (length words) ++ drop (length words) out
-cellsUnder (Refused r) words pictographs out = out
+cellsUnder v words pictographs out = writtenUnder v (answerAt words pictographs) (length words) out
 
 -- what stands in the lent column after a run
 abbrev pub runCells : List ℕ → List ℕ → List ℕ → List ℕ

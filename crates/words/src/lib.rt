@@ -4,15 +4,13 @@ mod judge;
 mod rows;
 mod rules;
 mod sets;
-mod sweeps;
 mod table;
 
 use classes::word_break;
-use records::Refusal;
-use records::Side;
 use records::Verdict;
+use records::check_words;
+use records::judge_room;
 use rows::write_answers;
-use sweeps::check;
 ghost use mathlib.Core.Path.{_≡_};
 ghost use lib.ListN.{length};
 ghost use Rattle.words.specs.Step.{startState, stepOf};
@@ -96,17 +94,10 @@ pub fn run(words: &[u8], pictographs: &[u8], out: &mut [u8]) -> Verdict
     ensures { λ r. ⌜ r ≡ runVerdict (now (words .entry)) (now (pictographs .entry)) (length (now (out .entry))) ⌝ }
     ensures { λ _. ⌜ now (out .exit) ≡ runCells (now (words .entry)) (now (pictographs .entry)) (now (out .entry)) ⌝ }
 {
-    let checked = check(words, pictographs);
-    let Verdict::Accepted = checked else {
-        return checked;
+    let verdict = judge_room(check_words(words, pictographs), words.len(), out.len());
+    let Verdict::Accepted = verdict else {
+        return verdict;
     };
-    if out.len() < words.len() {
-        return Verdict::Refused(Refusal {
-            number: 9,
-            side: Side::Neither,
-            index: 0,
-        });
-    }
     write_answers(words, pictographs, out);
     Verdict::Accepted
 }

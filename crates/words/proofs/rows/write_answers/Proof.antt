@@ -6,7 +6,8 @@ use Rattle.basics.specs.Columns.{cells}
 use Rattle.basics.proofs.Columns.{Written}
 use Rattle.words.specs.Run.{stateAt, answerAt}
 use Rattle.words.specs.Table.{wordGroups, wordSymbols, wordNexts, wordAnswers}
-use Rattle.words.proofs.Accepted.{even, fine-class, fine-mark, fine-next}
+use Rattle.records.proofs.Marks.{even, fine-class, fine-mark}
+use Rattle.words.proofs.Accepted.{fine-next}
 use Rattle.words.proofs.Standing.{Stands, start-stands, turn-stands, turn-written, turn-symbol, row-small, group-small}
 use borrow.Author.Needs.{needs}
 use Rattle.words.proofs.rows.write_answers.Statement.{statement}
@@ -26,16 +27,16 @@ add-group-at : tie.Need-add-group-at Inv-loop μ-loop
 add-group-at c = search needs
 
 group-at-requires : tie.Need-group-at-requires Inv-loop μ-loop
-group-at-requires c κs = (unfold wordGroups in refl, fine-class _ _ (c .before .before .before .before .before .before .pre .0) _)
+group-at-requires c κs = (unfold wordGroups in refl, fine-class _ _ _ (c .before .before .before .before .before .before .pre .0) _)
 
 shared-slice-read-symbol-of : tie.Need-shared-slice-read-symbol-of Inv-loop μ-loop
 shared-slice-read-symbol-of c = search needs
 
 shared-slice-read-symbol-of-2 : tie.Need-shared-slice-read-symbol-of-2 Inv-loop μ-loop
-shared-slice-read-symbol-of-2 c = omega (arith, even _ _ (c .before .before .before .before .before .before .before .before .before .before .pre .0))
+shared-slice-read-symbol-of-2 c = omega (arith, even _ _ _ (c .before .before .before .before .before .before .before .before .before .before .pre .0))
 
 symbol-of-requires : tie.Need-symbol-of-requires Inv-loop μ-loop
-symbol-of-requires c κs = (unfold wordSymbols in refl, (fine-class _ _ (c .before .before .before .before .before .before .before .before .before .before .pre .0) _ (c .before .before .before .before .before .loop-test .taken), (fine-mark _ _ (c .before .before .before .before .before .before .before .before .before .before .pre .0) _ (c .before .before .before .before .before .loop-test .taken), group-small _ _ (fine-next _ _ (c .before .before .before .before .before .before .before .before .before .before .pre .0) _) (c .before .before .before .group-at .ensures))))
+symbol-of-requires c κs = (unfold wordSymbols in refl, (fine-class _ _ _ (c .before .before .before .before .before .before .before .before .before .before .pre .0) _ (c .before .before .before .before .before .loop-test .taken), (fine-mark _ _ _ (c .before .before .before .before .before .before .before .before .before .before .pre .0) _ (c .before .before .before .before .before .loop-test .taken), group-small _ _ (fine-next _ _ (c .before .before .before .before .before .before .before .before .before .before .pre .0) _) (c .before .before .before .group-at .ensures))))
 
 answer-of-requires : tie.Need-answer-of-requires Inv-loop μ-loop
 answer-of-requires c κs = (unfold wordAnswers in refl, (turn-symbol _ _ (c .before .before .before .before .before .before .before .before .before .before .before .before .pre .0) _ (c .before .before .before .before .before .before .before .loop-test .taken) _ (c .before .before .before .before .before .before .before .before .loop .inv .1 .1 .0) _ _ _ _ refl refl (c .before .before .before .before .before .group-at .ensures) (c .before .symbol-of .ensures), row-small (c .before .before .before .before .before .before .before .before .loop .inv .1 .1 .0)))
