@@ -1,4 +1,7 @@
 pub mod ClustersSides
+pub mod GraphemeSummary
+pub mod GraphemeStanding
+pub mod Pairs
 pub mod WordsChain
 pub mod WordsRules
 pub mod WordsWalk

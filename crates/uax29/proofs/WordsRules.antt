@@ -10,6 +10,7 @@ use Rattle.uax29.specs.Rules.{Item, Rule, is, isNot, among, pictographic
 use Rattle.uax29.specs.Words.{WB1, WB2, WB3, WB3a, WB3b, WB3c, WB3d, WB4, WB5, WB6, WB7, WB7a, WB7b, WB7c, WB8, WB9, WB10, WB11, WB12, WB13, WB13a, WB13b, WB15, WB16, WB999, seen, ignored, anX, kept, passed, toWB4, rules}
 use Rattle.uax29.specs.Words as Words
 use Rattle.uax29.specs.declared.words.Seen.{Seen}
+use Rattle.uax29.proofs.Pairs.{oddOf, even, factor}
 use Rattle.uax29.specs.WordsSeen.{fromWB1, fromWB3c, fromWB5, fromWB7a, fromWB8, fromWB13, fromWB15, decided, after, hasX, nothing}
 
 -- the class of the nearest character
@@ -21,10 +22,8 @@ abbrev rest : List Item → List Item
 rest [] = []
 rest (x ∷ xs) = xs
 
--- whether an odd number of RI stands nearest
-unfoldable pub odd : List Item → Bool
-odd [] = false
-odd (x ∷ xs) = is RI x && not (odd xs)
+abbrev pub odd : List Item → Bool
+odd = oddOf RI
 
 unfoldable pub seenOf : List Item → Seen
 seenOf xs =
@@ -59,23 +58,7 @@ later-rules rs (a ∷ []) y (z ∷ xs) = refl
 later-rules rs (a ∷ b ∷ before) y [] = refl
 later-rules rs (a ∷ b ∷ before) y (z ∷ xs) = refl
 
--- WB15, WB16: of pairs of RI up to the start or another class, one of both is there where their number is even
-single : (t : Bool) → (false || not t) ≡ not (t && true)
-single true = refl
-single false = refl
-
-two-more : (p q a b o : Bool) → (a || b) ≡ not o → ((false || (p && (q && a))) || (not p || (p && (q && b)))) ≡ not (p && not (q && not o))
-two-more false q a b o e = refl
-two-more true false a b o e = refl
-two-more true true a b true e = e
-two-more true true a b false e = e
-
-even : (xs : List Item) → (pairs (is RI) edge xs || pairs (is RI) (one (isNot RI)) xs) ≡ not (odd xs)
-unfolding pairs edge one is isNot odd
-even [] = refl
-even (x ∷ []) = single (eqb (x .kind) RI)
-even (x ∷ y ∷ xs) = two-more (eqb (x .kind) RI) (eqb (y .kind) RI) (pairs (is RI) edge xs) (pairs (is RI) (one (isNot RI)) xs) (odd xs) (even xs)
-
+-- WB15, WB16
 either : (x y ri : Bool) → cond (x && ri) false (cond (y && ri) false true) ≡ cond ri (not (x || y)) true
 either true y true = refl
 either true true false = refl
@@ -85,15 +68,11 @@ either false true false = refl
 either false false true = refl
 either false false false = refl
 
-factor : (p a b o : Bool) → (a || b) ≡ not o → ((p && a) || (p && b)) ≡ (p && not o)
-factor true a b o e = e
-factor false a b o e = refl
-
 last-rules : (a : Item) (before : List Item) (y : Item) (xs : List Item) → decide (WB15 ∷ WB16 ∷ WB999 ∷ []) (a ∷ before) (y ∷ xs) ≡ fromWB15 (y .kind) (odd (a ∷ before))
-unfolding decide applies WB15 WB16 WB999 any edge one next is fromWB15 odd
+unfolding decide applies WB15 WB16 WB999 any edge one next is fromWB15 oddOf
 last-rules a before y xs =
     either (eqb (a .kind) RI && pairs (is RI) edge before) (eqb (a .kind) RI && pairs (is RI) (one (isNot RI)) before) (eqb (y .kind) RI)
-    ∙ ap (λ t. cond (eqb (y .kind) RI) (not t) true) (factor (eqb (a .kind) RI) (pairs (is RI) edge before) (pairs (is RI) (one (isNot RI)) before) (odd before) (even before))
+    ∙ ap (λ t. cond (eqb (y .kind) RI) (not t) true) (factor (eqb (a .kind) RI) (pairs (is RI) edge before) (pairs (is RI) (one (isNot RI)) before) (odd before) (even RI before))
 
 -- WB4 leaves a character where there was one
 some-under : (t : Bool) (kept-ones : List Item) (x : Item) (xs : List Item) → edge kept-ones ≡ false → edge (cond t kept-ones (x ∷ xs)) ≡ false
@@ -122,7 +101,7 @@ decides (x ∷ before) y xs =
 after-under : (t : Bool) (x : Item) (xs : List Item)
     → _≡_ {A = Seen} (record { none = false; last = x .kind; near = kindOf (cond t xs (x ∷ xs)); far = kindOf (rest (cond t xs (x ∷ xs))); odd = odd (cond t xs (x ∷ xs)) })
     (cond t (record { none = false; last = x .kind; near = kindOf xs; far = kindOf (rest xs); odd = odd xs }) (record { none = false; last = x .kind; near = x .kind; far = kindOf xs; odd = eqb (x .kind) RI && not (odd xs) }))
-unfolding odd is
+unfolding oddOf is
 after-under true x xs = refl
 after-under false x xs = refl
 
@@ -132,5 +111,5 @@ seen-after x [] = after-under (among ignored x && anX []) x []
 seen-after x (y ∷ xs) = after-under (among ignored x && anX (y ∷ xs)) x (kept (y ∷ xs))
 
 pub seen-none : seenOf [] ≡ nothing
-unfolding seenOf kept edge odd
+unfolding seenOf kept edge oddOf
 seen-none = refl

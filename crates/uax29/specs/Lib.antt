@@ -1,5 +1,10 @@
 pub mod Rules
 pub mod Clusters
 pub mod ClustersBack
+pub mod Graphemes
+pub mod GraphemeStep
+pub mod GraphemeKept
+pub mod GraphemeRows
+pub mod GraphemeTable
 pub mod Words
 pub mod WordsSeen
