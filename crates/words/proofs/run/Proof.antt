@@ -18,7 +18,7 @@ enum-told-2 c = search needs
 
 returns : tie.Need-returns
 unfolding runVerdict
-returns c = search ran-refused
+returns c = ran-refused _ _ _ _ _ _ (c .before .before .before .check-words .ensures) (c .before .before .judge-room .ensures) _ (c .enum-told2 .given .1)
 
 write-answers-requires : tie.Need-write-answers-requires
 write-answers-requires c κs = search (ran-checked, ran-long)
@@ -28,7 +28,7 @@ same-length c = search needs
 
 returns-2 : tie.Need-returns-2
 unfolding runVerdict
-returns-2 c = search ran-whole
+returns-2 c = ran-whole _ _ _ _ _ _ (c .before .before .before .before .before .before .before .check-words .ensures) (c .before .before .before .before .before .before .judge-room .ensures) _ (c .before .before .before .before .enum-told .given .1) (c .before .before .write-answers .ensures)
 
 pub run-spec : {M : Type 1} → statement M
 run-spec =
