@@ -1,6 +1,6 @@
 // The lines of the published break test files, answered by the rules of UAX #29: `G` for clusters and `W` for words, then the class and
 // the mark of each character (`W;8,0 11,0 8,0`). The answer has 1 for each character that a boundary stands before, else 0; to any
-// other line it is `?`.
+// other line it is `?`. Clusters are asked of both engines, and where they differ that is told with `!`.
 use cases::Kind;
 use cases::Number;
 use console::write;
@@ -9,15 +9,25 @@ use libc::STDIN_FILENO;
 // More than a line of the files has.
 type Cells = [u8; 64];
 
-fn bit(b: bool) -> u8 {
-    if b { 1 } else { 0 }
+// How many cells of the two differ.
+fn differing(a: &Cells, b: &Cells) -> usize {
+    let mut count: usize = 0;
+    let mut i: usize = 0;
+    while i < 64 {
+        if a[i] != b[i] {
+            count += 1;
+        }
+        i += 1;
+    }
+    count
 }
 
 fn clusters(classes: &[u8], marks: &[u8], bits: &mut Cells) {
-    let mut i: usize = 0;
-    while i < 64 {
-        bits[i] = bit(uax29::clusters::boundary(classes, marks, i));
-        i += 1;
+    let mut forward = [0u8; 64];
+    uax29::graphemes::graphemes_back(classes, marks, bits);
+    uax29::graphemes::graphemes_forward(classes, marks, &mut forward);
+    if 0 < differing(bits, &forward) {
+        write(b"!");
     }
 }
 

@@ -2,6 +2,7 @@ pub mod ClustersNeighbours
 pub mod ClustersAfter
 pub mod ClustersCall
 pub mod ClustersPlain
+pub mod ClustersCells
 pub mod ClustersStep
 pub mod ClustersNumbers
 pub mod ClustersModes

@@ -1,8 +1,9 @@
 -- The table of the run that goes forward is its step: the row stands for the state after each record. Assumes nothing.
-use Prim.Native.Nat.{ℕ, _+_, _*_, _/_, _%_, _<_, _≤_}
+use Prim.Native.Nat.{ℕ, zero, suc, _+_, _*_, _/_, _%_, _<_, _≤_}
 use mathlib.Core.Path.{_≡_, refl, sym, _∙_, ap}
 use mathlib.Core.Bool.{Bool, true, false, cond, not, _&&_, _||_}
 use mathlib.Core.List.{List, [], _∷_}
+use native.Mathlib.Numerals.{add-one}
 use native.Mathlib.Omega.{arith}
 use lib.Dec.{eqb, ltb}
 use lib.ListN.{length, getD, set}
@@ -11,11 +12,11 @@ use Rattle.basics.specs.Sets.{every}
 use Rattle.basics.proofs.Columns.{Written, written-more}
 use Rattle.basics.proofs.Sets.{every-at}
 use Rattle.basics.proofs.Tests.{both, neither}
-use Rattle.classes.specs.ClusterBreak.{len}
+use Rattle.classes.specs.ClusterBreak.{XX, RI, ZWJ, len}
 use Rattle.records.specs.Text.{cell}
 use Rattle.records.specs.declared.Verdict.the-variants.{Accepted}
 use Rattle.records.proofs.Marks.{fine-class, fine-mark}
-use Rattle.uax29.specs.Clusters.{is, isNot, among, pictographic, anything, edge, any, one, next, many, pairs, applies, decide, itemAt, beforeOf, GB1, GB2, GB3, GB4, GB5, GB6, GB7, GB8, GB9, GB9a, GB9b, GB11, GB12, GB13, GB999}
+use Rattle.uax29.specs.Clusters.{Item, is, isNot, among, pictographic, anything, edge, any, one, next, many, pairs, applies, decide, itemAt, beforeOf, GB1, GB2, GB3, GB4, GB5, GB6, GB7, GB8, GB9, GB9a, GB9b, GB11, GB12, GB13, GB999}
 use Rattle.uax29.specs.Graphemes.{startAt, graphemeCheck}
 use Rattle.uax29.specs.GraphemeStep.{noClass, startState, summary, advance, keptRules, near, starts, item, badState}
 use Rattle.uax29.specs.GraphemeRows.{cellOf, answerIn, rowIn}
@@ -147,3 +148,54 @@ module _ (breaks marks : List ℕ) (accepted : graphemeCheck breaks marks ≡ Ac
   turn-written out₀ out answer e h cells =
       let a : answer ≡ startAt breaks marks i = e ∙ rw (ef, stands .in-row) (here .1 .1) ∙ sym (start-is breaks marks accepted i inside) in
       rw a (written-more (startAt breaks marks) out₀ out i h cells)
+
+-- # The states of accepted texts are those that are not bad
+
+pub states-stand : (breaks marks : List ℕ) → graphemeCheck breaks marks ≡ Accepted → (i : ℕ) → i ≤ length breaks → Stands (stateAt breaks marks i) (rowOf (stateAt breaks marks i))
+states-stand breaks marks accepted zero h = record { good = start-stands breaks marks .good; in-row = refl }
+states-stand breaks marks accepted (suc i) h =
+    let before = states-stand breaks marks accepted i (omega arith) in
+    let e : i + 1 ≡ suc i = add-one i in
+    record { good = rw e at (turn-stands breaks marks accepted i (omega arith) (rowOf (stateAt breaks marks i)) before _ refl _ refl .good); in-row = refl }
+
+-- a text that leads to a state: at most two records, the nearest first
+unfoldable pub textTo : GraphemeState → List Item
+textTo s =
+    cond (eqb (s .previous) noClass) []
+    (cond (s .joined) (item ZWJ (bitOf (s .extended)) ∷ item XX 1 ∷ [])
+    (cond (eqb (s .previous) RI && not (s .odd)) (item RI (bitOf (s .extended)) ∷ item RI 0 ∷ [])
+    (item (s .previous) (bitOf (s .extended)) ∷ [])))
+
+alike : Bool → Bool → Bool
+alike true b = b
+alike false b = not b
+
+alike-is : (a b : Bool) → alike a b ≡ true → a ≡ b
+unfolding alike
+alike-is true b h = sym h
+alike-is false true h = h
+alike-is false false h = refl
+
+unfoldable same : GraphemeState → GraphemeState → Bool
+same s t = (eqb (s .previous) (t .previous) && alike (s .odd) (t .odd)) && (alike (s .extended) (t .extended) && alike (s .joined) (t .joined))
+
+same-is : (s t : GraphemeState) → same s t ≡ true → s ≡ t
+unfolding same
+same-is s t h =
+    let p = both (eqb (s .previous) (t .previous) && alike (s .odd) (t .odd)) _ h in
+    let a = both (eqb (s .previous) (t .previous)) _ (p .0) in
+    let b = both (alike (s .extended) (t .extended)) _ (p .1) in
+    state-is s t (eqb-true _ _ (a .0)) (alike-is _ _ (a .1)) (alike-is _ _ (b .0)) (alike-is _ _ (b .1))
+
+unfoldable led-to : ℕ → Bool
+led-to n = badState (stateOf n) || same (summary (textTo (stateOf n))) (stateOf n)
+
+all-led-to : every led-to 120 ≡ true
+unfolding every led-to same alike stateOf textTo summary next many pairs one edge is isNot pictographic GB11 GB12 GB13
+all-led-to = refl
+
+pub reaches : (s : GraphemeState) → badState s ≡ false → summary (textTo s) ≡ s
+unfolding led-to
+reaches s good =
+    let e : led-to (numberOf s) ≡ true = every-at led-to 120 (numberOf s) all-led-to (good-below s good) in
+    same-is (summary (textTo s)) s (not-bad (badState s) (same (summary (textTo s)) s) good (rw (known s) at e))

@@ -3,6 +3,7 @@ pub mod Clusters
 pub mod ClustersBack
 pub mod Graphemes
 pub mod GraphemeStep
+pub mod GraphemeRefusals
 pub mod GraphemeKept
 pub mod GraphemeRows
 pub mod GraphemeTable

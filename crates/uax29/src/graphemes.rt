@@ -2,12 +2,12 @@
 // check, two runs that give the same answers, and the step of the one that goes forward.
 use crate::clusters::boundary;
 use crate::forward::write_starts;
+use crate::words::bit;
 use classes::cluster_break;
 use records::Verdict;
 use records::check_marked;
 use records::judge_room;
 ghost use mathlib.Core.Path.{_≡_};
-ghost use mathlib.Core.Bool.{cond};
 ghost use mathlib.Core.List.{_++_};
 ghost use Prim.Native.Nat.{_≤_};
 ghost use lib.ListN.{length, drop};
@@ -30,12 +30,6 @@ pub struct GraphemeStep {
     pub state: GraphemeState,
     pub answer: u8,
     pub verdict: Verdict,
-}
-
-pub(crate) fn bit(b: bool) -> u8
-    ensures { λ r. ⌜ r ≡ cond b 1 0 ⌝ }
-{
-    if b { 1 } else { 0 }
 }
 
 impl GraphemeState {

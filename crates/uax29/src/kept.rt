@@ -1,6 +1,8 @@
 // The step of the engine that goes forward: its refusals, the state behind a record, and the rules asked of the state. a is the class
 // before, b the record's own.
 use crate::graphemes::GraphemeState;
+use crate::words::in2;
+use crate::words::in3;
 use classes::cluster_break::*;
 use records::Side;
 use records::Verdict;
@@ -12,27 +14,8 @@ ghost use mathlib.Core.List.{[], _∷_};
 ghost use lib.Dec.{eqb};
 ghost use Rattle.basics.specs.Sets.{member};
 ghost use Rattle.classes.specs.ClusterBreak as ClusterBreak;
-ghost use Rattle.uax29.specs.Clusters.{controls};
 ghost use Rattle.uax29.specs.GraphemeStep.{item, badState, advance, starts, stepVerdict};
 ghost use Rattle.uax29.specs.GraphemeKept.{fromGB3, fromGB6, fromGB9, fromGB11};
-
-fn is_control(class: u8) -> bool
-    ensures { λ r. ⌜ r ≡ member controls class ⌝ }
-{
-    if class == CN {
-        return true;
-    }
-    is_either(class, CR, LF)
-}
-
-fn is_either(class: u8, first: u8, second: u8) -> bool
-    ensures { λ r. ⌜ r ≡ member (first ∷ second ∷ []) class ⌝ }
-{
-    if class == first {
-        return true;
-    }
-    class == second
-}
 
 // GB3
 fn is_crlf(a: u8, b: u8) -> bool
@@ -54,7 +37,7 @@ fn is_behind_leading(b: u8) -> bool
     if b == V {
         return true;
     }
-    is_either(b, LV, LVT)
+    in2(b, LV, LVT)
 }
 
 // GB6
@@ -71,8 +54,8 @@ fn is_leading_run(a: u8, b: u8) -> bool
 fn is_vowel_run(a: u8, b: u8) -> bool
     ensures { λ r. ⌜ r ≡ (member (ClusterBreak.LV ∷ ClusterBreak.«V» ∷ []) a && member (ClusterBreak.«V» ∷ ClusterBreak.T ∷ []) b) ⌝ }
 {
-    if is_either(a, LV, V) {
-        return is_either(b, V, T);
+    if in2(a, LV, V) {
+        return in2(b, V, T);
     }
     false
 }
@@ -81,7 +64,7 @@ fn is_vowel_run(a: u8, b: u8) -> bool
 fn is_trailing_run(a: u8, b: u8) -> bool
     ensures { λ r. ⌜ r ≡ (member (ClusterBreak.LVT ∷ ClusterBreak.T ∷ []) a && eqb b ClusterBreak.T) ⌝ }
 {
-    if is_either(a, LVT, T) {
+    if in2(a, LVT, T) {
         return b == T;
     }
     false
@@ -200,7 +183,7 @@ impl GraphemeState {
         ensures { λ r. ⌜ r ≡ fromGB9 self b mark ⌝ }
     {
         // GB9
-        if is_either(b, EX, ZWJ) {
+        if in2(b, EX, ZWJ) {
             return false;
         }
         // GB9a
@@ -240,11 +223,11 @@ impl GraphemeState {
             return false;
         }
         // GB4
-        if is_control(self.previous) {
+        if in3(self.previous, CN, CR, LF) {
             return true;
         }
         // GB5
-        if is_control(b) {
+        if in3(b, CN, CR, LF) {
             return true;
         }
         self.from_gb6(b, mark)

@@ -37,7 +37,7 @@ pub enum Set {
 }
 
 // Membership of two and of three classes.
-fn in2(class: u8, a: u8, b: u8) -> bool
+pub(crate) fn in2(class: u8, a: u8, b: u8) -> bool
     ensures { λ r. ⌜ r ≡ member (a ∷ b ∷ []) class ⌝ }
 {
     if class == a {
@@ -46,7 +46,7 @@ fn in2(class: u8, a: u8, b: u8) -> bool
     class == b
 }
 
-fn in3(class: u8, a: u8, b: u8, c: u8) -> bool
+pub(crate) fn in3(class: u8, a: u8, b: u8, c: u8) -> bool
     ensures { λ r. ⌜ r ≡ member (a ∷ b ∷ c ∷ []) class ⌝ }
 {
     if class == a {
@@ -325,7 +325,7 @@ fn ahead(words: &[u8], at: usize) -> u8
     Other
 }
 
-fn bit(b: bool) -> u8
+pub(crate) fn bit(b: bool) -> u8
     ensures { λ r. ⌜ r ≡ cond b 1 0 ⌝ }
 {
     if b { 1 } else { 0 }
