@@ -8,15 +8,21 @@ use mathlib.Core.List.{List, [], _∷_}
 use native.Mathlib.Omega.{arith}
 use native.Mathlib.Numerals.{add-one}
 use lib.Dec.{eqb}
-use lib.ListN.{length}
-use borrow.Author.Tests.{ne-eqb, le-ltb}
-use Rattle.classes.specs.ClusterBreak.{RI}
+use lib.ListN.{length, set}
+use borrow.Author.Tests.{eq-eqb, ne-eqb, le-ltb}
+use Rattle.basics.specs.Sets.{member}
+use Rattle.basics.proofs.Columns.{Written, written-more}
+use Rattle.classes.specs.ClusterBreak.{RI, PP}
 use Rattle.records.specs.Text.{cell}
-use Rattle.records.specs.declared.Verdict.the-variants.{Accepted}
+use Rattle.records.specs.declared.Refusal.{Refusal}
+use Rattle.records.specs.declared.Verdict.{Verdict}
+use Rattle.records.specs.declared.Verdict.the-variants.{Accepted, Refused}
 use Rattle.records.proofs.Marks.{fine-class}
-use Rattle.uax29.specs.Clusters.{Item, is, isNot, among, pictographic, anything, edge, any, one, next, many, pairs, applies, decide, itemAt, beforeOf, itemsFrom, afterOf, rules, boundaryAt, GB1, GB2, GB3, GB4, GB5, GB6, GB7, GB8, GB9, GB9a, GB9b, GB11, GB12, GB13, GB999}
-use Rattle.uax29.specs.Graphemes.{startAt, graphemeCheck}
-use Rattle.uax29.specs.GraphemeStep.{noClass, classOf, startState, summary, advance, keptRules, near, starts}
+use Rattle.records.proofs.Written.{ran-refused, ran-whole, ran-checked, ran-long}
+use Rattle.uax29.specs.Clusters.{Item, is, isNot, among, pictographic, anything, edge, any, one, next, many, pairs, applies, decide, itemAt, beforeOf, itemsFrom, afterOf, rules, controls, boundaryAt, GB1, GB2, GB3, GB4, GB5, GB6, GB7, GB8, GB9, GB9a, GB9b, GB11, GB12, GB13, GB999}
+use Rattle.uax29.specs.Graphemes.{startAt, graphemeCheck, graphemeVerdict, graphemeCells}
+use Rattle.uax29.specs.GraphemeStep.{noClass, classOf, startState, summary, advance, keptRules, near, starts, item, stepVerdict, stepOf}
+use Rattle.uax29.specs.GraphemeKept.{fromGB3, fromGB6, fromGB9, fromGB11}
 use Rattle.uax29.specs.declared.graphemes.GraphemeState.{GraphemeState}
 use Rattle.uax29.proofs.ClustersSides.{some-after}
 use Rattle.uax29.proofs.Pairs.{oddOf, half}
@@ -77,3 +83,50 @@ module _ (breaks marks : List ℕ) (accepted : graphemeCheck breaks marks ≡ Ac
       let decided : decide rules (beforeOf breaks marks i) (afterOf breaks marks i) ≡ starts (stateAt breaks marks i) (itemAt breaks marks i) =
       ap (decide rules (beforeOf breaks marks i)) (some-after breaks marks i h) ∙ starts-is (beforeOf breaks marks i) _ (itemAt breaks marks i) (listed i inside) in
       rw (le-ltb (length breaks) i inside) (ap (λ b. cond b 1 0) decided)
+
+-- # The code of the step, and a turn of the engine that looks back
+
+pub starts-first : (s : GraphemeState) (kind marked : ℕ) → s .previous ≡ noClass → true ≡ starts s (item kind marked)
+unfolding starts near keptRules decide applies GB1 edge any
+starts-first s kind marked h = rw (eq-eqb (s .previous) noClass h)
+
+and-all : (a : Bool) → (a && true) ≡ a
+and-all true = refl
+and-all false = refl
+
+pub starts-later : (s : GraphemeState) (kind marked : ℕ) (r : Bool) → (s .previous ≡ noClass → ⊥) → r ≡ fromGB3 s kind marked → r ≡ starts s (item kind marked)
+unfolding starts near keptRules decide applies GB1 GB2 GB3 GB4 GB5 GB6 GB7 GB8 GB9 GB9a GB9b GB11 GB12 GB999 anything edge any one is among pictographic fromGB3 fromGB6 fromGB9 fromGB11
+starts-later s kind marked r n e = e ∙ rw (ne-eqb (s .previous) noClass n, and-all (member controls (s .previous)), and-all (eqb (s .previous) PP))
+
+-- v is what the judge said
+module _ (s : GraphemeState) (kind marked : ℕ) (v : Verdict) (e : v ≡ stepVerdict s kind marked) where
+  pub step-refused : (r : Refusal) → v ≡ Refused r → record { state = s; answer = 0; verdict = v } ≡ stepOf s kind marked
+  step-refused r h = rw (← e, h)
+
+  pub step-passed : (t : GraphemeState) (b : Bool) (answer : ℕ) → v ≡ Accepted → t ≡ advance s (item kind marked) → b ≡ starts s (item kind marked) → answer ≡ cond b 1 0
+      → record { state = t; answer = answer; verdict = Accepted } ≡ stepOf s kind marked
+  step-passed t b answer h f g k = rw (← e, h, k, f, g)
+
+pub turn-decided : (breaks marks out₀ out : List ℕ) (i : ℕ) (b : Bool) (answer : ℕ) → b ≡ boundaryAt breaks marks i → answer ≡ cond b 1 0 → i < length out₀
+    → Written (startAt breaks marks) out₀ i out → Written (startAt breaks marks) out₀ (i + 1) (set out i answer)
+turn-decided breaks marks out₀ out i b answer e f h cells =
+    let a : answer ≡ startAt breaks marks i = unfold startAt in f ∙ ap (λ t. cond t 1 0) e in
+    rw a (written-more (startAt breaks marks) out₀ out i h cells)
+
+-- # How a run comes out, where v is what was said of the check and the room
+
+module _ (breaks marks out : List ℕ) (v : Verdict) (e : v ≡ graphemeVerdict breaks marks (length out)) where
+  abbrev Ran : Verdict → List ℕ → Type 0
+  Ran r cells = (r ≡ graphemeVerdict breaks marks (length out)) × (cells ≡ graphemeCells breaks marks out)
+
+  pub run-refused : (r : Refusal) → v ≡ Refused r → Ran v out
+  run-refused r h = ran-refused (startAt breaks marks) (length breaks) out (graphemeCheck breaks marks) (graphemeCheck breaks marks) v refl e r h
+
+  pub run-whole : (cells : List ℕ) → v ≡ Accepted → Written (startAt breaks marks) out (length breaks) cells → Ran Accepted cells
+  run-whole cells h k = ran-whole (startAt breaks marks) (length breaks) out (graphemeCheck breaks marks) (graphemeCheck breaks marks) v refl e cells h k
+
+  pub run-checked : v ≡ Accepted → graphemeCheck breaks marks ≡ Accepted
+  run-checked h = ran-checked (startAt breaks marks) (length breaks) out (graphemeCheck breaks marks) (graphemeCheck breaks marks) v refl e h
+
+  pub run-long : v ≡ Accepted → length breaks ≤ length out
+  run-long h = ran-long (startAt breaks marks) (length breaks) out (graphemeCheck breaks marks) (graphemeCheck breaks marks) v refl e h

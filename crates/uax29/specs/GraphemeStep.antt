@@ -54,8 +54,8 @@ advance s x =
 unfoldable pub keptRules : GraphemeState → List Rule
 keptRules s =
     GB1 ∷ GB2 ∷ GB3 ∷ GB4 ∷ GB5 ∷ GB6 ∷ GB7 ∷ GB8 ∷ GB9 ∷ GB9a ∷ GB9b
-    ∷ (λ xs. s .joined) ⨯ GB11 .after
-    ∷ (λ xs. s .odd) ⨯ GB12 .after
+    ∷ ((λ xs. s .joined) ⨯ GB11 .after)
+    ∷ ((λ xs. s .odd) ⨯ GB12 .after)
     ∷ GB999
     ∷ []
 

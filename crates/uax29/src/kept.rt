@@ -11,7 +11,7 @@ use records::refused;
 ghost use mathlib.Core.Path.{_≡_};
 ghost use mathlib.Core.Bool.{_&&_, _||_, not};
 ghost use mathlib.Core.List.{[], _∷_};
-ghost use lib.Dec.{eqb};
+ghost use lib.Dec.{eqb, ltb};
 ghost use Rattle.basics.specs.Sets.{member};
 ghost use Rattle.classes.specs.ClusterBreak as ClusterBreak;
 ghost use Rattle.uax29.specs.GraphemeStep.{item, badState, advance, starts, stepVerdict};
@@ -70,6 +70,12 @@ fn is_trailing_run(a: u8, b: u8) -> bool
     false
 }
 
+fn is_above(class: u8, most: u8) -> bool
+    ensures { λ r. ⌜ r ≡ ltb most class ⌝ }
+{
+    most < class
+}
+
 // Whether a number has this value where a flag of the state holds: GB11, GB12 and GB13.
 fn is_met(flag: bool, x: u8, value: u8) -> bool
     ensures { λ r. ⌜ r ≡ (flag && eqb x value) ⌝ }
@@ -95,7 +101,7 @@ impl GraphemeState {
     fn is_bad(self) -> bool
         ensures { λ r. ⌜ r ≡ badState self ⌝ }
     {
-        if LEN < self.previous {
+        if is_above(self.previous, LEN) {
             return true;
         }
         if is_misplaced(self.odd, self.previous, RI) {

@@ -1,0 +1,13 @@
+use Rattle.basics.proofs.Choices.{chains}
+use borrow.Author.Needs.{needs}
+use Rattle.uax29.proofs.graphemes.GraphemeState.is_odd_with.Statement.{statement}
+use Rattle.uax29.proofs.graphemes.GraphemeState.is_odd_with.Tie as tie
+
+returns : tie.Need-returns
+returns c = search chains depth 12
+
+returns-2 : tie.Need-returns-2
+returns-2 c = search chains depth 12
+
+pub is-odd-with-spec : {M : Type 1} → statement M
+is-odd-with-spec = tie.close (tie.spec returns returns-2)
