@@ -1,9 +1,9 @@
--- On plain texts the clusters of SCOPE 12.5 "equal the starts of the simple clusters", by both engines, whose contracts are one.
+-- On plain texts the clusters of SCOPE 12.5 are the simple parser's, by both engines, whose contracts are one.
 -- Assumes nothing.
 use Prim.Native.Nat.{ℕ, zero, suc, _+_, _<_, _≤_}
 use mathlib.Core.Path.{_≡_, refl, sym, _∙_, ap}
 use mathlib.Core.Bool.{Bool, true, false, cond}
-use mathlib.Core.List.{List, _∷_}
+use mathlib.Core.List.{List}
 use native.Mathlib.Omega.{arith}
 use lib.Dec.{eqb, ltb}
 use lib.ListN.{length}
@@ -11,8 +11,8 @@ use borrow.Author.Tests.{le-ltb, ltb-false}
 use Rattle.basics.proofs.Tests.{neither}
 use Rattle.classes.specs.ClusterBreak as ClusterBreak
 use Rattle.classes.specs.declared.Mode.{Mode}
-use Rattle.records.specs.Text.{Text, cell, recordLengths}
-use Rattle.records.specs.Refusals.{most, tooLong, verdict}
+use Rattle.records.specs.Text.{Text, cell}
+use Rattle.records.specs.Refusals.{most, verdict}
 use Rattle.records.specs.Sound.{Sound}
 use Rattle.records.specs.declared.Parser.the-variants.{Simple}
 use Rattle.records.specs.declared.Verdict.the-variants.{Accepted}
@@ -59,7 +59,8 @@ bit-one : (b : Bool) → eqb (cond b 1 0) 1 ≡ b
 bit-one true = refl
 bit-one false = refl
 
--- "On plain texts both equal the starts of the simple clusters": with a cell for each record, the cells that are 1 stand where they start.
+-- "On plain texts (8.1) the records with 1 are where the simple parser's clusters start, in both of its modes": with a cell for each
+-- record, neither run refuses, and the cells that are 1 stand where the clusters start.
 pub graphemes-plain : (mode : Mode) (t : Text) (out : List ℕ) → verdict Simple t ≡ Accepted → isPlain mode t ≡ true → length (t .records .breaks) ≤ length out
     → (graphemeVerdict (t .records .breaks) (t .records .semojis) (length out) ≡ Accepted)
     × (placesFrom (λ i. eqb (cell (graphemeCells (t .records .breaks) (t .records .semojis) out) i) 1) 0 (length (t .records .breaks)) ≡ clusterStarts mode t)

@@ -1,19 +1,15 @@
 -- What is true of every run of clusters (SCOPE 12.5), and of its step. Assumes nothing.
-use Prim.Native.Nat.{ℕ, zero, suc, _+_, _<_, _≤_}
-use mathlib.Core.Path.{_≡_, refl, sym, _∙_, ap}
-use mathlib.Core.Bool.{Bool, true, false, cond, not, _&&_, _||_}
+use Prim.Native.Nat.{ℕ, _+_, _<_, _≤_}
+use mathlib.Core.Path.{_≡_, refl, _∙_, ap}
+use mathlib.Core.Bool.{Bool, true, false, cond}
 use mathlib.Core.List.{List, [], _∷_}
 use native.Mathlib.Omega.{arith}
-use native.Mathlib.Numerals.{add-one}
-use lib.Dec.{eqb, ltb, leb}
 use lib.ListN.{length}
 use Rattle.basics.specs.Columns.{cells}
-use Rattle.basics.specs.Sets.{every}
 use Rattle.classes.specs.ClusterBreak.{XX, CN, RI, EX, ZWJ, len}
 use Rattle.records.specs.Text.{cell}
 use Rattle.records.specs.Refusals.{refuse, _⊳_, over}
 use Rattle.records.specs.Offences.{markedTableOf, roomLine, ByTable}
-use Rattle.records.specs.Written.{writtenUnder}
 use Rattle.records.specs.declared.Refusal.{Refusal}
 use Rattle.records.specs.declared.Side.the-variants.{Record, Neither}
 use Rattle.records.specs.declared.Verdict.{Verdict}
@@ -23,14 +19,14 @@ use Rattle.records.proofs.Marks.{fine}
 use Rattle.records.proofs.Tables.{firstOf, by-table}
 use Rattle.records.proofs.Unique.{unique}
 use Rattle.records.proofs.Written as Written
-use Rattle.uax29.specs.Clusters.{Item, is, isNot, among, pictographic, anything, edge, any, one, next, many, pairs, applies, decide, itemAt, beforeOf, itemsFrom, boundaryAt, GB1, GB2, GB3, GB4, GB5, GB6, GB7, GB8, GB9, GB9a, GB9b, GB11, GB12, GB13, GB999}
+use Rattle.uax29.specs.Clusters.{is, isNot, among, pictographic, anything, edge, any, one, next, many, pairs, applies, decide, itemAt, beforeOf, itemsFrom, boundaryAt, GB1, GB2, GB3, GB4, GB5, GB6, GB7, GB8, GB9, GB9a, GB9b, GB11, GB12, GB13, GB999}
 use Rattle.uax29.specs.Graphemes.{startAt, graphemeCheck, graphemeVerdict, graphemeCells}
-use Rattle.uax29.specs.GraphemeStep.{noClass, startState, summary, advance, keptRules, near, starts, item, badRecord, badState, stepVerdict, stepUnder, stepOf}
+use Rattle.uax29.specs.GraphemeStep.{startState, summary, advance, keptRules, near, starts, item, badRecord, badState, stepVerdict, stepUnder, stepOf}
 use Rattle.uax29.specs.GraphemeRefusals.{stepTable}
 use Rattle.uax29.specs.declared.graphemes.GraphemeState.{GraphemeState}
 use Rattle.uax29.specs.declared.graphemes.GraphemeStep.{GraphemeStep}
 use Rattle.uax29.proofs.GraphemeSummary.{summary-none, stateAt, state-more, start-is}
-use Rattle.uax29.proofs.GraphemeStanding.{Stands, start-stands, states-stand, textTo, reaches}
+use Rattle.uax29.proofs.GraphemeStanding.{states-stand, textTo, reaches}
 
 -- # The two engines
 
@@ -43,8 +39,7 @@ module _ (breaks marks out : List ℕ) where
   pub grapheme-run-unique : (r q : Verdict) (out′ out″ : List ℕ) → GraphemesRan r out′ → GraphemesRan q out″ → (r ≡ q) × (out′ ≡ out″)
   grapheme-run-unique r q out′ out″ a b = Written.ran-unique (startAt breaks marks) (length breaks) out (graphemeVerdict breaks marks (length out)) r q out′ out″ a b
 
-  -- "they are proved equal on every accepted text", and on every other: back and forward are what `graphemes_back` and
-  -- `graphemes_forward` leave
+  -- The two engines "are equal on every text": back and forward are what `graphemes_back` and `graphemes_forward` leave.
   pub engines-agree : (r q : Verdict) (back forward : List ℕ) → GraphemesRan r back → GraphemesRan q forward → (r ≡ q) × (back ≡ forward)
   engines-agree = grapheme-run-unique
 
@@ -97,7 +92,7 @@ module _ (breaks marks : List ℕ) (accepted : graphemeCheck breaks marks ≡ Ac
   first-starts h = start-is breaks marks accepted 0 h ∙ ap (λ s. cond (starts s (itemAt breaks marks 0)) 1 0) (begins breaks marks)
       ∙ (unfold starts near keptRules decide applies GB1 edge any in refl)
 
--- "8: a state that no text leads to", and no other: to a state that is not bad a text of two records at most leads.
+-- 8 for "a state that no text leads to", and for no other: to a state that is not bad a text of two records at most leads.
 pub good-reached : (s : GraphemeState) → badState s ≡ false → summary (textTo s) ≡ s
 good-reached = reaches
 

@@ -1,6 +1,6 @@
 -- The table of the run that goes forward is its step: the row stands for the state after each record. Assumes nothing.
 use Prim.Native.Nat.{ℕ, zero, suc, _+_, _*_, _/_, _%_, _<_, _≤_}
-use mathlib.Core.Path.{_≡_, refl, sym, _∙_, ap}
+use mathlib.Core.Path.{_≡_, refl, sym, _∙_}
 use mathlib.Core.Bool.{Bool, true, false, cond, not, _&&_, _||_}
 use mathlib.Core.List.{List, [], _∷_}
 use native.Mathlib.Numerals.{add-one}
@@ -16,9 +16,9 @@ use Rattle.classes.specs.ClusterBreak.{XX, RI, ZWJ, len}
 use Rattle.records.specs.Text.{cell}
 use Rattle.records.specs.declared.Verdict.the-variants.{Accepted}
 use Rattle.records.proofs.Marks.{fine-class, fine-mark}
-use Rattle.uax29.specs.Clusters.{Item, is, isNot, among, pictographic, anything, edge, any, one, next, many, pairs, applies, decide, itemAt, beforeOf, GB1, GB2, GB3, GB4, GB5, GB6, GB7, GB8, GB9, GB9a, GB9b, GB11, GB12, GB13, GB999}
+use Rattle.uax29.specs.Clusters.{Item, is, isNot, among, pictographic, anything, edge, any, one, next, many, pairs, applies, decide, beforeOf, GB1, GB2, GB3, GB4, GB5, GB6, GB7, GB8, GB9, GB9a, GB9b, GB11, GB12, GB13, GB999}
 use Rattle.uax29.specs.Graphemes.{startAt, graphemeCheck}
-use Rattle.uax29.specs.GraphemeStep.{noClass, startState, summary, advance, keptRules, near, starts, item, badState}
+use Rattle.uax29.specs.GraphemeStep.{noClass, summary, advance, keptRules, near, starts, item, badState}
 use Rattle.uax29.specs.GraphemeRows.{cellOf, answerIn, rowIn}
 use Rattle.uax29.specs.GraphemeTable.{graphemeTable, graphemeGroups}
 use Rattle.uax29.specs.declared.graphemes.GraphemeState.{GraphemeState}

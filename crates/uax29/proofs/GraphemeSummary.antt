@@ -19,7 +19,7 @@ use Rattle.records.specs.declared.Verdict.{Verdict}
 use Rattle.records.specs.declared.Verdict.the-variants.{Accepted, Refused}
 use Rattle.records.proofs.Marks.{fine-class}
 use Rattle.records.proofs.Written.{ran-refused, ran-whole, ran-checked, ran-long}
-use Rattle.uax29.specs.Clusters.{Item, is, isNot, among, pictographic, anything, edge, any, one, next, many, pairs, applies, decide, itemAt, beforeOf, itemsFrom, afterOf, rules, controls, boundaryAt, GB1, GB2, GB3, GB4, GB5, GB6, GB7, GB8, GB9, GB9a, GB9b, GB11, GB12, GB13, GB999}
+use Rattle.uax29.specs.Clusters.{Item, is, isNot, among, pictographic, anything, edge, any, one, next, many, pairs, applies, decide, itemAt, beforeOf, afterOf, rules, controls, boundaryAt, GB1, GB2, GB3, GB4, GB5, GB6, GB7, GB8, GB9, GB9a, GB9b, GB11, GB12, GB13, GB999}
 use Rattle.uax29.specs.Graphemes.{startAt, graphemeCheck, graphemeVerdict, graphemeCells}
 use Rattle.uax29.specs.GraphemeStep.{noClass, classOf, startState, summary, advance, keptRules, near, starts, item, stepVerdict, stepOf}
 use Rattle.uax29.specs.GraphemeKept.{fromGB3, fromGB6, fromGB9, fromGB11}

@@ -9,7 +9,7 @@ use Rattle.records.specs.Refusals.{refuse, _⊳_, coded, mark, outside}
 use Rattle.records.specs.declared.Side.the-variants.{Record, Neither}
 use Rattle.records.specs.declared.Verdict.{Verdict}
 use Rattle.records.specs.declared.Verdict.the-variants.{Accepted, Refused}
-use Rattle.uax29.specs.Clusters.{Item, is, isNot, pictographic, Rule, one, many, _⨯_, decide, GB1, GB2, GB3, GB4, GB5, GB6, GB7, GB8, GB9, GB9a, GB9b, GB11, GB12, GB13, GB999}
+use Rattle.uax29.specs.Clusters.{Item, is, pictographic, Rule, one, many, _⨯_, decide, GB1, GB2, GB3, GB4, GB5, GB6, GB7, GB8, GB9, GB9a, GB9b, GB11, GB12, GB13, GB999}
 use Rattle.uax29.specs.declared.graphemes.GraphemeState.{GraphemeState}
 use Rattle.uax29.specs.declared.graphemes.GraphemeStep.{GraphemeStep}
 
@@ -71,11 +71,11 @@ starts s x = decide (keptRules s) (near s) (x ∷ [])
 abbrev pub item : ℕ → ℕ → Item
 item kind mark = record { kind = kind; mark = mark }
 
--- 4, "over the columns taken"
+-- 4
 abbrev pub badRecord : ℕ → ℕ → Bool
 badRecord kind marked = outside (coded kind ClusterBreak.len ∷ mark marked ∷ [])
 
--- 8: a state that no text leads to
+-- 8: "a state that no text leads to"
 abbrev pub badState : GraphemeState → Bool
 badState s =
     ltb noClass (s .previous)

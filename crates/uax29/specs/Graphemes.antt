@@ -1,5 +1,5 @@
--- Clusters as UAX #29 has them (SCOPE 12.5): the rules GB1 to GB999 over two lent columns, "the cluster break column and the simple
--- parser's emoji marks", with no limit of 32. Both engines have this one definition.
+-- Clusters as UAX #29 has them (SCOPE 12.5): the rules GB1 to GB999 over "the cluster break column and the simple parser's emoji marks",
+-- with no limit of 32. Both engines have this one definition.
 use Prim.Native.Nat.{ℕ}
 use mathlib.Core.Bool.{cond}
 use mathlib.Core.List.{List}
@@ -10,11 +10,11 @@ use Rattle.records.specs.Written.{roomy, writtenUnder}
 use Rattle.records.specs.declared.Verdict.{Verdict}
 use Rattle.uax29.specs.Clusters.{boundaryAt}
 
--- "0 or 1 for each record: 1 if a cluster starts there"
+-- "0 or 1 for each record, 1 where a cluster starts"
 unfoldable pub startAt : List ℕ → List ℕ → ℕ → ℕ
 startAt breaks marks i = cond (boundaryAt breaks marks i) 1 0
 
--- "1, 2, 4 over the columns taken"
+-- "1 and 2 over the two columns, then 4 by rising index for either code"
 abbrev pub graphemeCheck : List ℕ → List ℕ → Verdict
 graphemeCheck breaks marks = markedVerdict ClusterBreak.len breaks marks
 

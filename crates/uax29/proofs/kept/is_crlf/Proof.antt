@@ -1,5 +1,4 @@
 use Rattle.basics.proofs.Choices.{chains}
-use borrow.Author.Needs.{needs}
 use Rattle.uax29.proofs.kept.is_crlf.Statement.{statement}
 use Rattle.uax29.proofs.kept.is_crlf.Tie as tie
 
