@@ -7,6 +7,7 @@ import re
 import sys
 from functools import lru_cache, partial
 
+import grapheme_reading
 import line_reading
 import property_reading
 import reading
@@ -60,7 +61,7 @@ def part(item):
 
 
 @lru_cache(maxsize=1 << 16)
-def word_record(item):
+def marked_class(item):
     return tuple(number(code, "u8") for code in fields(item, 2))
 
 
@@ -187,12 +188,17 @@ def cluster_answer(kind, mode, script, place, records, parts):
 
 
 def word_run_answer(cells, records):
-    return run_line(reading.word_run(items(records, word_record), number(cells, "u16")))
+    return run_line(reading.word_run(items(records, marked_class), number(cells, "u16")))
 
 
 def word_step_answer(state, record_, following):
     state = word_state(state)
-    return step_line([state], reading.word_step(state, *word_record(record_), class_or_none(following)))
+    return step_line([state], reading.word_step(state, *marked_class(record_), class_or_none(following)))
+
+
+def grapheme_answer(cells, records):
+    """The same for both engines."""
+    return run_line(grapheme_reading.graphemes(items(records, marked_class), number(cells, "u16")))
 
 
 def line_step_answer(strength_, table_, state, line_class):
@@ -229,7 +235,7 @@ def property_answer(cells, blocks, out, scalars):
 
 
 # each kind with the number of its fields
-ANSWERS = {("W", 2): word_run_answer, ("w", 3): word_step_answer,
+ANSWERS = {("W", 2): word_run_answer, ("w", 3): word_step_answer, ("G", 2): grapheme_answer, ("g", 2): grapheme_answer,
            ("l", 4): line_step_answer, ("n", 6): next_step_answer, ("L", 4): line_run_answer, ("F", 4): property_answer,
            **{(kind, 5): partial(cluster_answer, kind) for kind in "SMCsmc"}}
 

@@ -12,7 +12,7 @@ import real_labels
 import real_properties
 import unicode
 
-KINDS = "SMCWwsmclnLF"
+KINDS = "SMCWwsmclnLFGg"
 CHUNK = 20_000
 CLUSTER_PARTS = ("S", "M", "C", "exhaustive-S", "exhaustive-M", "exhaustive-C", "exhaustive-partless-C", "newlines-S",
                  "ordered-M", "ordered-C", "places")

@@ -1,6 +1,6 @@
 #!/usr/bin/env python3
 """Do the fixed lists notice a wrong reading? Each mutant has one name, one number or one test
-of reading.py, line_reading.py or property_reading.py changed; the lists have to answer otherwise in some
+of reading.py, line_reading.py, property_reading.py or grapheme_reading.py changed; the lists have to answer otherwise in some
 line. Prints each mutant that no list notices, and the count.
 """
 
@@ -11,6 +11,7 @@ import resource
 import signal
 
 import cases
+import grapheme_reading
 import line_reading
 import lists
 import property_reading
@@ -48,7 +49,7 @@ def change(node):
 
 
 # in the order in which they are loaded, each with the types that the layout has under their own names too
-MODULES = {reading: ("Part", "Record", "Refusal", "WordState"), line_reading: ("LineState", "Table"), property_reading: ()}
+MODULES = {reading: ("Part", "Record", "Refusal", "WordState"), line_reading: ("LineState", "Table"), property_reading: (), grapheme_reading: ()}
 
 
 def file_name(module):

@@ -74,6 +74,13 @@ class Parts(unittest.TestCase):
         self.assertEqual(len(sizes["exhaustive-l"]), 1)
         self.assertEqual(self.sizes()["n"][0], 200_000)
 
+    def test_clusters_of_uax29(self):
+        self.assertEqual([self.sizes("--graphemes", "7")[part][0] for part in "GgF"], [7, 7, 100_000])
+        long, short = self.sizes(), self.sizes("--short")
+        self.assertEqual((long["G"][0], short["g"][0]), (200_000, 2_000))
+        self.assertEqual([len(sizes["exhaustive-g"]) for sizes in (long, short)], [27, 1])
+        self.assertEqual(len(short["refusals-G"]), 27)
+
     def test_property_files(self):
         self.assertEqual(self.sizes("--files", "7")["F"][0], 7)
         self.assertEqual((self.sizes()["F"][0], self.sizes("--short")["F"][0]), (100_000, 2_000))

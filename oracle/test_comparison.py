@@ -164,7 +164,7 @@ class Published(unittest.TestCase):
     def test_a_line_that_differs(self):
         folder = small_unicode.folder(self)
         judges = Comparison(rust)
-        self.assertEqual(printed(comparison.compare_unicode, judges, folder)[0], 11)
+        self.assertEqual(printed(comparison.compare_unicode, judges, folder)[0], 17)
         self.assertEqual(judges.differences, 0)
         file = folder / "auxiliary/WordBreakTest.txt"
         file.write_text(file.read_text().replace("÷ 0021 ÷ 0041", "÷ 0021 × 0041"))

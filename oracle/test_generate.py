@@ -6,6 +6,7 @@ import unittest
 
 import cases
 import generate
+import grapheme_cases
 import laws
 import line_cases
 import line_reading
@@ -28,7 +29,7 @@ def refusal_numbers(lines):
 
 class Layout(unittest.TestCase):
     def test_every_part_but_one_is_of_the_layout(self):
-        for part in {*generate.RANDOM, *generate.FIXED} - {"layout", "line-layout", "layout-F", "long", "sizes-F"}:
+        for part in {*generate.RANDOM, *generate.FIXED} - {"layout", "line-layout", "layout-F", "layout-G", "layout-g", "long", "sizes-F"}:
             for line in some(part):
                 with self.subTest(part, line=line[:200]):
                     cases.answer(line)
@@ -102,6 +103,15 @@ class Meant(unittest.TestCase):
     def test_property_files_of_every_size(self):
         blocks = [block for line in property_cases.sizes() for block in line.split(";")[2].split(" ")]
         self.assertLessEqual({0xFFFF, 0x10000, 0x10001}, {len(block) // 2 - 1 for block in blocks})
+
+    def test_clusters_of_uax29(self):
+        for engine in grapheme_cases.ENGINES:
+            self.assertEqual(refusal_numbers(grapheme_cases.refusals(engine)), {4, 9})
+            too_long = [line for line in grapheme_cases.long_runs(engine) if line.count(" ") == reading.LONGEST]
+            self.assertEqual({cases.answer(line) for line in too_long}, {"R 1 0 -"})
+            self.assertEqual({line[0] for part in (engine, f"exhaustive-{engine}", f"layout-{engine}") for line in some(part)} - {" "}, {engine})
+        self.assertEqual(refusal_numbers(generate.generate("G", 1, 2_000)), {4, 9})
+        self.assertEqual(sum(1 for _ in grapheme_cases.exhaustive("g")), sum(28 ** length for length in range(5)) + 7 ** 5 + 7 ** 6)
 
     def test_every_word_step_once(self):
         steps = list(generate.word_steps())

@@ -7,6 +7,8 @@ import unittest
 from unittest import mock
 
 import cases
+import grapheme_cases
+import grapheme_reading
 import line_cases
 import line_reading
 import lists
@@ -59,6 +61,12 @@ class Order(unittest.TestCase):
         self.assertLessEqual({line for line, _ in property_cases.corners()} | {property_cases.too_long()}, set(chosen))
 
 
+    def test_the_corners_of_clusters_are_chosen(self):
+        make_lists = loading.command("oracle/make-lists")
+        for engine in grapheme_cases.ENGINES:
+            self.assertLessEqual({line for line, _ in grapheme_cases.corners(engine)}, set(make_lists.graphemes(engine)))
+
+
 class Mutants(unittest.TestCase):
     def test_one_change_at_each_site(self):
         source = 'def f(a):\n    """Says."""\n    return a == 1 or a in ("x", True) or a < 2\n'
@@ -80,12 +88,13 @@ class Mutants(unittest.TestCase):
         unchanged = mutants.reading_itself()
         # a mutant takes the reading's place for good; the other tests want the reading back
         with (mock.patch.dict(vars(reading)), mock.patch.dict(vars(line_reading)), mock.patch.dict(vars(property_reading)),
-              mock.patch.dict(vars(cases))):
+              mock.patch.dict(vars(grapheme_reading)), mock.patch.dict(vars(cases))):
             self.assertFalse(mutants.is_noticed(unchanged, [("W;1;0,0", "1"), ("l;Normal;;0,0;0", "R 10 0 -;0,0"),
-                                                            ("F;0,0;;1;0041", "||0,0")]))
+                                                            ("F;0,0;;1;0041", "||0,0"), ("G;2;9,0 9,0", "1 0")]))
             self.assertTrue(mutants.is_noticed(unchanged, [("W;1;0,0", "0")]))
             self.assertTrue(mutants.is_noticed(unchanged, [("l;Normal;crate;44,-;1", "2;1,1")]))
             self.assertTrue(mutants.is_noticed(unchanged, [("F;0,0;;1;0041", "||0,1")]))
+            self.assertTrue(mutants.is_noticed(unchanged, [("g;2;9,0 9,0", "1 1")]))
 
 
 if __name__ == "__main__":

@@ -63,12 +63,15 @@ class Published(unittest.TestCase):
         self.assertIn("    1 one RI a cluster", output)
         self.assertIn("WordBreakTest: 2 lines, 2 of them plain; 2 agree, 0 differ", output)
         self.assertIn("LineBreakTest: 6 lines; 2 agree, 4 differ", output)
+        for engine in ("looking back", "forward"):
+            self.assertIn(f"GraphemeBreakTest by the rules, {engine}: 3 lines; 3 agree, 0 differ\n", output)
         for entry in unicode.LINE_ENTRIES:
             self.assertIn(f"    1 {entry}\n", output)
 
     def test_differences_without_an_entry(self):
         for change in ((0, "|2>3:", "|1>3:"), (1, "|2>5:", "|3>5:"), (3, "1 0 0", "1 0 1"), (4, "1 1", "1 0"), (5, "1 1 2", "1 2 2"),
-                       (6, "1 0 3", "1 0 1"), (7, "1 0", "2 0"), (8, "1 1", "1 2")):
+                       (6, "1 0 3", "1 0 1"), (7, "1 0", "2 0"), (8, "1 1", "1 2"), (11, "1 0 1", "1 0 0"), (12, "1 0 1 0 0", "1 0 1 0 1"), (13, "1 0", "1 1"),
+                       (15, "1 0 1 0 0", "1 1 1 0 0"), (16, "1 0", "1 1")):
             with self.subTest(change):
                 status, output = self.answers(change)
                 self.assertEqual(status, 1)

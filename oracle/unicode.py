@@ -4,21 +4,23 @@ GraphemeBreakTest, WordBreakTest and LineBreakTest.
 
 A line that is a plain text (SCOPE 8.1, of clusters and words) must agree; any other may differ where
 an entry of the known differences says so. Counts the lines for each entry; fails where a difference
-has none.
+has none. The clusters of UAX #29 (Req 05) have no entries: every line must agree, by both engines.
 """
 
 import argparse
 import collections
+import itertools
 import pathlib
 import re
 import sys
 
+import grapheme_cases
 import laws
 import programs
 from generate import case, record, word_case
 from line_cases import run_case
 from line_reading import LINE, LINE_BREAK
-from reading import WORD
+from reading import CLUSTER_BREAK, WORD
 
 # the tools read Unicode's files too, in the folder beside this one
 sys.path.append(str(pathlib.Path(__file__).resolve().parent.parent / "tools"))
@@ -78,6 +80,10 @@ def cluster_case(line):
                          for scalar, kind, mark in zip(line.scalars, line.kinds, line.marks)])
 
 
+def grapheme_case(engine, line):
+    return grapheme_cases.case(engine, [f"{CLUSTER_BREAK.index(kind)},{mark}" for kind, mark in zip(line.kinds, line.marks)])
+
+
 def words_case(line):
     return word_case([f"{WORD.index(kind)},{mark}" for kind, mark in zip(line.kinds, line.marks)])
 
@@ -92,7 +98,7 @@ def cluster_boundaries(line, answer):
     return [int(at in starts) for at in range(len(line.scalars))]
 
 
-def word_boundaries(_, answer):
+def given_boundaries(_, answer):
     return [int(sign) for sign in answer.split(" ")]
 
 
@@ -315,16 +321,24 @@ def check(title, lines, answers, boundaries, is_plain, entries):
 
 def check_all(folder, answers):
     clusters, words = test_lines(folder)
-    first_word, first_wrapped = len(clusters), len(clusters) + len(words)
-    faults = check("GraphemeBreakTest", clusters, answers[:first_word], cluster_boundaries, is_plain_cluster, CLUSTER_ENTRIES)
-    faults += check("WordBreakTest", words, answers[first_word:first_wrapped], word_boundaries, is_plain_word, WORD_ENTRIES)
-    faults += check("LineBreakTest", wrapped_lines(folder), answers[first_wrapped:], line_breaks, None, LINE_ENTRIES)
+    wrapped = wrapped_lines(folder)
+    given = iter(answers)
+    faults = check("GraphemeBreakTest", clusters, taken(given, clusters), cluster_boundaries, is_plain_cluster, CLUSTER_ENTRIES)
+    faults += check("WordBreakTest", words, taken(given, words), given_boundaries, is_plain_word, WORD_ENTRIES)
+    faults += check("LineBreakTest", wrapped, taken(given, wrapped), line_breaks, None, LINE_ENTRIES)
+    for engine in ("looking back", "forward"):
+        faults += check(f"GraphemeBreakTest by the rules, {engine}", clusters, taken(given, clusters), given_boundaries, None, {})
     return 1 if faults else 0
+
+
+def taken(answers, lines):
+    return list(itertools.islice(answers, len(lines)))
 
 
 def all_cases(folder):
     clusters, words = test_lines(folder)
-    return [*map(cluster_case, clusters), *map(words_case, words), *map(wrapped_case, wrapped_lines(folder))]
+    return [*map(cluster_case, clusters), *map(words_case, words), *map(wrapped_case, wrapped_lines(folder)),
+            *(grapheme_case(engine, line) for engine in grapheme_cases.ENGINES for line in clusters)]
 
 
 def parse_options(description, **actions):
@@ -341,7 +355,7 @@ def parse_options(description, **actions):
 
 
 def main():
-    options = parse_options(__doc__, cases="prints S lines, then W lines, then L lines",
+    options = parse_options(__doc__, cases="prints S lines, then W, L, G and g lines",
                             check="says of each answer in standard input whether it agrees with the file",
                             run="both at once, with a program that reads cases and prints answers")
     if options.action == "cases":
