@@ -18,7 +18,8 @@ use Rattle.lines.specs.declared.LineState.{LineState}
 use Rattle.lines.specs.declared.Previous.{Previous}
 use Rattle.lines.specs.declared.Previous.the-variants as Previous
 use Rattle.cases.specs.declared.layout.Line.{Line}
-use Rattle.cases.specs.declared.layout.Line.the-variants.{Skipped, NotOfLayout, Text, Words, Step, Lent, Files}
+use Rattle.cases.specs.declared.layout.Line.the-variants.{Skipped, NotOfLayout, Text, Marked, Step, Lent, Files}
+use Rattle.cases.specs.declared.layout.Machine.{Machine}
 use Rattle.cases.specs.declared.layout.Task.the-variants.{LineStep, BoundaryStep, Boundaries}
 use Rattle.cases.specs.declared.layout.Asked.{Asked}
 use Rattle.cases.specs.declared.layout.Asked.the-variants.{Of, Nobody}
@@ -27,7 +28,7 @@ use Rattle.cases.specs.declared.items.Kind.the-variants.{Record, Part, W
 use Rattle.cases.specs.declared.numbers.Number.{Number}
 use Rattle.cases.specs.declared.numbers.Number.the-variants.{Value, Nothing}
 use Rattle.cases.specs.Items.{itemsOf, isItem, fits, fieldOf}
-use Rattle.cases.specs.Lines.{skipped, askedOf, textIn, moded, textLine, wordsLine, stateOf, aheadOf, stepOf, named, previousOf, lineStateOf, boundaryOf, boundaries, lentLine, tableLine, filesIn, kindLine, lineOf}
+use Rattle.cases.specs.Lines.{skipped, askedOf, textIn, moded, textLine, markedLine, stateOf, aheadOf, stepOf, named, previousOf, lineStateOf, boundaryOf, boundaries, lentLine, tableLine, filesIn, kindLine, lineOf}
 use Rattle.cases.specs.Numbers.{numberOf, most16}
 use Rattle.cases.specs.Spans.{span, count, equal, letter}
 
@@ -91,22 +92,22 @@ module _ (kind : ℕ) (xs p : List ℕ) (s : ℕ) (fp : p ≡ span 59 2 xs) (es 
   unfolding textLine
   text-nobody h = rw (← fp, ← es, ← ea, h)
 
--- a word run
-module _ (xs p : List ℕ) (n : Number) (fp : p ≡ span 59 1 xs) (en : n ≡ numberOf 10 most16 p) where
-  pub words-no-number : n ≡ Nothing → NotOfLayout ≡ wordsLine xs
-  unfolding wordsLine
-  words-no-number h = rw (← fp, ← en, h)
+-- a run over classes and marks
+module _ (machine : Machine) (xs p : List ℕ) (n : Number) (fp : p ≡ span 59 1 xs) (en : n ≡ numberOf 10 most16 p) where
+  pub marked-no-number : n ≡ Nothing → NotOfLayout ≡ markedLine machine xs
+  unfolding markedLine
+  marked-no-number h = rw (← fp, ← en, h)
 
   module _ (size : ℕ) (hn : n ≡ Value size) (q : List ℕ) (a : Number) (fq : q ≡ span 59 2 xs) (ea : a ≡ itemsOf Word q) where
-    pub words-no-records : a ≡ Nothing → NotOfLayout ≡ wordsLine xs
-    unfolding wordsLine
-    words-no-records h = rw (← fp, ← en, hn, ← fq, ← ea, h)
+    pub marked-no-records : a ≡ Nothing → NotOfLayout ≡ markedLine machine xs
+    unfolding markedLine
+    marked-no-records h = rw (← fp, ← en, hn, ← fq, ← ea, h)
 
-    pub words-read : (records : ℕ) → a ≡ Value records → Words size records ≡ wordsLine xs
-    unfolding wordsLine
-    words-read records h = rw (← fp, ← en, hn, ← fq, ← ea, h)
+    pub marked-read : (records : ℕ) → a ≡ Value records → Marked machine size records ≡ markedLine machine xs
+    unfolding markedLine
+    marked-read records h = rw (← fp, ← en, hn, ← fq, ← ea, h)
 
-pub ruleset runs = (words-no-number, words-no-records, words-read)
+pub ruleset runs = (marked-no-number, marked-no-records, marked-read)
 
 -- a word step
 pub state-read : (xs : List ℕ) (a b c d : ℕ) → a ≡ fieldOf 10 255 0 xs → b ≡ fieldOf 10 255 1 xs → c ≡ fieldOf 10 255 2 xs → d ≡ fieldOf 10 255 3 xs

@@ -17,7 +17,9 @@ use Rattle.lines.specs.declared.LineState.{LineState}
 use Rattle.lines.specs.declared.Previous.{Previous}
 use Rattle.lines.specs.declared.Previous.the-variants as Previous
 use Rattle.cases.specs.declared.layout.Line.{Line}
-use Rattle.cases.specs.declared.layout.Line.the-variants.{Skipped, NotOfLayout, Text, Words, Step, Lent, Files}
+use Rattle.cases.specs.declared.layout.Line.the-variants.{Skipped, NotOfLayout, Text, Marked, Step, Lent, Files}
+use Rattle.cases.specs.declared.layout.Machine.{Machine}
+use Rattle.cases.specs.declared.layout.Machine.the-variants.{Words, Back, Forward}
 use Rattle.cases.specs.declared.layout.Task.the-variants.{LineStep, BoundaryStep, Boundaries}
 use Rattle.cases.specs.declared.layout.Asked.{Asked}
 use Rattle.cases.specs.declared.layout.Asked.the-variants.{Of, Nobody}
@@ -81,13 +83,20 @@ askedLine Nobody xs = NotOfLayout
 unfoldable pub textLine : ℕ → List ℕ → Line
 textLine kind xs = askedLine (askedOf kind (letter (span 59 2 xs))) xs
 
-abbrev pub wordsWith : Number → Number → Line
-wordsWith (Value size) (Value records) = Words size records
-wordsWith (Value size) Nothing = NotOfLayout
-wordsWith Nothing records = NotOfLayout
+abbrev pub markedWith : Machine → Number → Number → Line
+markedWith machine (Value size) (Value records) = Marked machine size records
+markedWith machine (Value size) Nothing = NotOfLayout
+markedWith machine Nothing records = NotOfLayout
 
-unfoldable pub wordsLine : List ℕ → Line
-wordsLine xs = wordsWith (numberOf 10 most16 (span 59 1 xs)) (itemsOf Word (span 59 2 xs))
+unfoldable pub markedLine : Machine → List ℕ → Line
+markedLine machine xs = markedWith machine (numberOf 10 most16 (span 59 1 xs)) (itemsOf Word (span 59 2 xs))
+
+-- "W;CELLS;class,pict …", "G;CELLS;break,emoji …  the engine that looks back; g the one that goes forward"
+unfoldable pub runLine : ℕ → List ℕ → Line
+runLine kind xs =
+    cond (eqb kind 87) (markedLine Words xs)
+    (cond (eqb kind 71) (markedLine Back xs)
+    (cond (eqb kind 103) (markedLine Forward xs) NotOfLayout))
 
 unfoldable pub stateOf : List ℕ → WordState
 stateOf xs =
@@ -188,7 +197,7 @@ filesLine xs = cond (eqb (count 59 xs) 4) (cond (isItem Sets (span 59 1 xs)) (fi
 unfoldable pub kindLine : ℕ → List ℕ → Line
 kindLine kind xs =
     cond (eqb (count 59 xs) 5) (textLine kind xs)
-    (cond (eqb (count 59 xs) 2) (cond (eqb kind 87) (wordsLine xs) NotOfLayout)
+    (cond (eqb (count 59 xs) 2) (runLine kind xs)
     (cond (eqb (count 59 xs) 3) (cond (eqb kind 119) (stepLine xs) NotOfLayout)
     (cond (eqb kind 70) (filesLine xs) (strengthLine kind xs))))
 

@@ -23,7 +23,7 @@ use words::Next;
 use words::WordState;
 ghost use mathlib.Core.Path.{_≡_};
 ghost use Rattle.cases.specs.Lines as Lines;
-ghost use Rattle.cases.specs.Lines.{skipped, fullAsked, plainAsked, khmerAsked, askedOf, textIn, moded, textLine, wordsLine, stateOf, aheadOf, stepOf, stepLine, previousOf, lineStateOf, lineStep, boundaryOf, boundaryStep, lentLine, tableLine, strengthLine, kindLine, lineOf};
+ghost use Rattle.cases.specs.Lines.{skipped, fullAsked, plainAsked, khmerAsked, askedOf, textIn, moded, textLine, markedLine, runLine, stateOf, aheadOf, stepOf, stepLine, previousOf, lineStateOf, lineStep, boundaryOf, boundaryStep, lentLine, tableLine, strengthLine, kindLine, lineOf};
 
 pub enum Line {
     Skipped,
@@ -38,8 +38,9 @@ pub enum Line {
         records: u32,
         parts: u32,
     },
-    // The columns are in span 2 of the line.
-    Words {
+    // A run over classes and marks. The columns are in span 2 of the line.
+    Marked {
+        machine: Machine,
         cells: u32,
         records: u32,
     },
@@ -64,6 +65,13 @@ pub enum Line {
         cells: u32,
         scalars: u32,
     },
+}
+
+// Who answers for classes and marks: the word machine, or an engine of UAX #29's clusters, which looks back or goes forward.
+pub enum Machine {
+    Words,
+    Back,
+    Forward,
 }
 
 pub enum Task {
@@ -225,8 +233,8 @@ fn text_line(line: &[u8], kind: u8) -> Line
     }
 }
 
-fn words_line(line: &[u8]) -> Line
-    ensures { λ r. ⌜ r ≡ wordsLine (now (line .entry)) ⌝ }
+fn marked_line(line: &[u8], machine: Machine) -> Line
+    ensures { λ r. ⌜ r ≡ markedLine machine (now (line .entry)) ⌝ }
 {
     let Number::Value(cells) = read_number(span(line, b';', 1), Base::Decimal, MOST16) else {
         return Line::NotOfLayout;
@@ -234,7 +242,26 @@ fn words_line(line: &[u8]) -> Line
     let Number::Value(records) = count_items(span(line, b';', 2), Kind::Word) else {
         return Line::NotOfLayout;
     };
-    Line::Words { cells, records }
+    Line::Marked {
+        machine,
+        cells,
+        records,
+    }
+}
+
+fn run_line(line: &[u8], kind: u8) -> Line
+    ensures { λ r. ⌜ r ≡ runLine kind (now (line .entry)) ⌝ }
+{
+    if kind == b'W' {
+        return marked_line(line, Machine::Words);
+    }
+    if kind == b'G' {
+        return marked_line(line, Machine::Back);
+    }
+    if kind == b'g' {
+        return marked_line(line, Machine::Forward);
+    }
+    Line::NotOfLayout
 }
 
 fn state_of(item: &[u8]) -> WordState
@@ -430,10 +457,7 @@ fn kind_line(line: &[u8], kind: u8) -> Line
         return text_line(line, kind);
     }
     if semicolons == 2 {
-        if kind == b'W' {
-            return words_line(line);
-        }
-        return Line::NotOfLayout;
+        return run_line(line, kind);
     }
     if semicolons == 3 {
         if kind == b'w' {

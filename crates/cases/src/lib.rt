@@ -16,6 +16,7 @@ pub use items::Kind;
 pub use items::MOST_SCALARS;
 pub use items::count_items;
 pub use layout::Line;
+pub use layout::Machine;
 pub use layout::Task;
 pub use layout::read;
 pub use numbers::Base;

@@ -1,7 +1,7 @@
 use Rattle.cases.proofs.Asks.{runs}
 use borrow.Author.Needs.{needs}
-use Rattle.cases.proofs.layout.words_line.Statement.{statement}
-use Rattle.cases.proofs.layout.words_line.Tie as tie
+use Rattle.cases.proofs.layout.marked_line.Statement.{statement}
+use Rattle.cases.proofs.layout.marked_line.Tie as tie
 
 span-requires : tie.Need-span-requires
 span-requires c κs = search needs
@@ -36,8 +36,8 @@ returns-2 c = search runs
 returns-3 : tie.Need-returns-3
 returns-3 c = search runs
 
-pub words-line-spec : {M : Type 1} → statement M
-words-line-spec =
+pub marked-line-spec : {M : Type 1} → statement M
+marked-line-spec =
     tie.close
     (tie.spec
     span-requires
