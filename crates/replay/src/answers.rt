@@ -10,6 +10,7 @@ use crate::texts::text;
 use crate::zeros;
 use crate::zeros::CELLS;
 use cases::Line;
+use cases::Machine;
 use records::Verdict;
 use records::cells::cell8;
 use words::WordState;
@@ -29,15 +30,30 @@ pub(crate) fn cells(to: &mut Buffer, at: usize, answers: &[u8; CELLS], n: usize)
     end
 }
 
-fn word_run(to: &mut Buffer, at: usize, line: &[u8], size: u32, records: usize) -> usize {
+fn run_by(machine: Machine, classes: &[u8], marks: &[u8], out: &mut [u8]) -> Verdict {
+    match machine {
+        Machine::Words => words::run(classes, marks, out),
+        Machine::Back => uax29::graphemes_back(classes, marks, out),
+        Machine::Forward => uax29::graphemes_forward(classes, marks, out),
+    }
+}
+
+fn marked_run(
+    to: &mut Buffer,
+    at: usize,
+    line: &[u8],
+    machine: Machine,
+    size: u32,
+    records: usize,
+) -> usize {
     let section = cases::span(line, b';', 2);
     let mut classes = zeros::column8();
-    let mut pictographs = zeros::column8();
+    let mut marks = zeros::column8();
     let mut answers = zeros::cells8();
     let n = cases::column8(section, 0, records, &mut classes);
-    let m = cases::column8(section, 1, records, &mut pictographs);
+    let m = cases::column8(section, 1, records, &mut marks);
     let k = io::count(size as isize, &answers);
-    let verdict = words::run(&classes[..n], &pictographs[..m], &mut answers[..k]);
+    let verdict = run_by(machine, &classes[..n], &marks[..m], &mut answers[..k]);
     match verdict {
         Verdict::Accepted => cells(to, at, &answers, n),
         Verdict::Refused(r) => refusal(to, at, r),
@@ -103,11 +119,12 @@ pub(crate) fn answer(to: &mut Buffer, at: usize, line: &[u8], number: u64) -> us
             let end = text(to, at, line, ask, records as usize, parts as usize);
             out::put(to, end, b'\n')
         }
-        Line::Words {
+        Line::Marked {
+            machine,
             cells: size,
             records,
         } => {
-            let end = word_run(to, at, line, size, records as usize);
+            let end = marked_run(to, at, line, machine, size, records as usize);
             out::put(to, end, b'\n')
         }
         Line::Step {
