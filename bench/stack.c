@@ -90,9 +90,11 @@ static void write_lines(void) {
 }
 
 /* The call under way, and what it writes. */
-enum { CHECK, RUN, STEP, CHECK_WORDS, RUN_WORDS, STEP_WORD, RUN_LINES, STEP_LINE, STEP_NEXT, READ, LOOKUP, CALLS };
+enum { CHECK, RUN, STEP, CHECK_WORDS, RUN_WORDS, STEP_WORD, RUN_LINES, STEP_LINE, STEP_NEXT, CHECK_GRAPHEMES, RUN_GRAPHEMES, RUN_GRAPHEMES_BACK,
+       STEP_GRAPHEME, READ, LOOKUP, CALLS };
 static const char *names[] = {"ezh_check",     "ezh_run",       "ezh_step",      "ezh_check_words",     "ezh_run_words", "ezh_step_word",
-                              "ezh_run_lines", "ezh_step_line", "ezh_step_next", "ezh_read_properties", "ezh_lookup"};
+                              "ezh_run_lines", "ezh_step_line", "ezh_step_next", "ezh_check_graphemes", "ezh_run_graphemes",
+                              "ezh_run_graphemes_back", "ezh_step_grapheme", "ezh_read_properties", "ezh_lookup"};
 static int call;
 static uint64_t parser, mode, strength, results[EZH_STEP_CELLS];
 static size_t place;
@@ -136,6 +138,18 @@ static void *made(void *none) {
     case STEP_NEXT:
         ezh_step_next(strength, TABLE, EZH_LINE_START, zeros, text.records, 1, EZH_WORD_OTHER, 0, 0, zeros[0], zeros[0], emojis[0], zeros,
                       text.records, results, EZH_STEP_CELLS);
+        break;
+    case CHECK_GRAPHEMES:
+        ezh_check_graphemes(zeros, text.records, emojis, text.records, results, EZH_STEP_CELLS);
+        break;
+    case RUN_GRAPHEMES:
+        ezh_run_graphemes(zeros, text.records, emojis, text.records, out_classes, CELLS, results, EZH_STEP_CELLS);
+        break;
+    case RUN_GRAPHEMES_BACK:
+        ezh_run_graphemes_back(zeros, text.records, emojis, text.records, out_classes, CELLS, results, EZH_STEP_CELLS);
+        break;
+    case STEP_GRAPHEME:
+        ezh_step_grapheme(EZH_GRAPHEME_START, 0, 0, 0, zeros[0], emojis[0], results, EZH_STEP_CELLS);
         break;
     case READ:
         ezh_read_properties(EZH_FILE_CLUSTER, (const uint8_t *)lines, text.records * LINE, EZH_RANGES(ranges), results, EZH_STEP_CELLS);
@@ -202,12 +216,12 @@ int main(void) {
         return 1;
     }
     write_lines();
-    printf("%-20s %-8s %10s %10s\n", "call", "parser", "a label", "any text");
+    printf("%-22s %-8s %10s %10s\n", "call", "parser", "a label", "any text");
     for (call = CHECK; call < CALLS; call++) {
         for (parser = EZH_SIMPLE; parser <= EZH_KHMER; parser++) {
             size_t label = most(256), any = most(3 * MOST);
             if (call < CHECK_WORDS || parser == EZH_SIMPLE) {
-                printf("%-20s %-8s %10zu %10zu\n", names[call], call < CHECK_WORDS ? parsers[parser] : "", label, any);
+                printf("%-22s %-8s %10zu %10zu\n", names[call], call < CHECK_WORDS ? parsers[parser] : "", label, any);
             }
         }
     }

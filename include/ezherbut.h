@@ -5,8 +5,8 @@
  * written overlaps no other column of the call. Nothing is kept between two calls.
  *
  * Stack. A call on a label of up to 256 tokens fits in 16 KiB, a call on any text in 256 KiB. Measured on x86-64 and on Arm: 13.5 KB for a
- * label (ezh_step; ezh_run 12.3 KB, simple 4.4), 115 KB for the longest text, of which 96 KiB hold its tokens; the check, the words
- * and the lines need less than 1 KB. ezh_read_properties needs 148 KB on x86-64, whatever it is lent, of which 144 KiB hold the
+ * label (ezh_step; ezh_run 12.3 KB, simple 4.4), 115 KB for the longest text, of which 96 KiB hold its tokens; the check, the words,
+ * the lines and UAX #29's clusters need less than 1 KB. ezh_read_properties needs 148 KB on x86-64, whatever it is lent, of which 144 KiB hold the
  * ranges of one call; ezh_lookup less than 1 KB. bench/stack measures it.
  *
  * A text is 18 columns, in this order in every call. Fourteen with a cell for each record: scalar, cluster break, USE class, Myanmar
@@ -19,6 +19,9 @@
  * A line table is one column of cells, in rows of 44: one for each line class, and one for the end of the text, which is never asked. A
  * cell is the row that comes next (its value modulo 64), 0x40 where a break is mandatory, 0x80 where one is allowed. EZH_PAIR_TABLE in
  * ezherbut_codes.h is swash's own.
+ *
+ * UAX #29's clusters are a mode of their own, with calls of their own: the rules GB1 to GB999 of Unicode 15.0 over two columns, cluster break
+ * and the simple parser's emoji marks, with no limit of 32 characters. Two engines give the same answers.
  *
  * The properties of a text's records can be read from Unicode's own files, GraphemeBreakProperty.txt and WordBreakProperty.txt.
  * ezh_read_properties fills range columns from the lines of one of them, a set of three columns for each file: the first scalar, the last
@@ -41,7 +44,7 @@
  *   6  complex parsers: U+034F with a USE class that they look for behind the marks CMAbv of a base (CMBlw, SUB, H, FM,
  *      FAbv, FBlw, FPst, and those that begin with M, VA, VB, VP or VM): side and index say where
  *   7  complex parser with Khmer: an unmarked U+17BE, 17BF, 17C0, 17C4 or 17C5 whose parts are not exactly one, U+17C1
- *   8  the place is neither a token nor the end; for words and lines, a state that is none
+ *   8  the place is neither a token nor the end; for words, lines and UAX #29's clusters, a state that is none
  *   9  a column for the answer is too short
  *
  * 3, 4 and 6 are looked for in the parts by rising index, then 3, 4, 5 and 6 in the records by rising index.
@@ -74,7 +77,7 @@ enum {
     EZH_SIDE = 1,
     /* of a record or a part from 0; of the line of a property file from 1 */
     EZH_INDEX = 2,
-    /* how many cells a check, a word run, a run of lines and a lookup write */
+    /* how many cells a check, a run of words, lines or UAX #29's clusters and a lookup write */
     EZH_CHECK_CELLS = 3,
 };
 
@@ -141,6 +144,19 @@ enum {
 
 /* The row in which every text starts. */
 enum { EZH_LINE_START = 44 };
+
+/* The further cells of ezh_step_grapheme's results: the state after the record, and whether a cluster starts at it. */
+enum {
+    EZH_GRAPHEME_PREVIOUS = 3,
+    EZH_GRAPHEME_ODD = 4,
+    EZH_GRAPHEME_EXTENDED = 5,
+    EZH_GRAPHEME_JOINED = 6,
+    EZH_GRAPHEME_ANSWER = 7,
+    EZH_GRAPHEME_CELLS = 8,
+};
+
+/* The class before the first record of a text: none. */
+enum { EZH_GRAPHEME_START = 14 };
 
 /* The further cells of ezh_read_properties' results. */
 enum {
@@ -271,6 +287,33 @@ uint64_t ezh_step_next(uint64_t strength, const uint8_t *table, size_t table_cou
                        size_t before_count, uint64_t first, uint64_t previous, uint64_t prevent, uint64_t count, uint64_t line,
                        uint64_t word, uint64_t pictograph, const uint8_t *rest, size_t rest_count, uint64_t *results,
                        size_t results_count);
+
+/* The check of the two columns of a run over UAX #29's clusters. Results: EZH_CHECK_CELLS. Refusals: 9 (results), 1, 2, 4. */
+uint64_t ezh_check_graphemes(const uint8_t *breaks, size_t breaks_count, const uint8_t *semojis, size_t semojis_count,
+                             uint64_t *results, size_t results_count);
+
+/*
+ * A run over UAX #29's clusters: 1 for each record that a cluster starts at, else 0; the first record starts one. Any record may have the
+ * emoji mark: the rules look at characters, not at what a font shows. Results: EZH_CHECK_CELLS.
+ * Refusals: 9 (results), 1, 2, 4, and 9 where out has fewer cells than there are records.
+ * ezh_run_graphemes goes forward with a small state, in time that a record has a fixed share of; ezh_run_graphemes_back looks back from
+ * each record and gives the same answers.
+ */
+uint64_t ezh_run_graphemes(const uint8_t *breaks, size_t breaks_count, const uint8_t *semojis, size_t semojis_count, uint8_t *out,
+                           size_t out_count, uint64_t *results, size_t results_count);
+uint64_t ezh_run_graphemes_back(const uint8_t *breaks, size_t breaks_count, const uint8_t *semojis, size_t semojis_count,
+                                uint8_t *out, size_t out_count, uint64_t *results, size_t results_count);
+
+/*
+ * A step over UAX #29's clusters: a state (the cluster break before, and the marks odd, extended and joined, 0 or 1), and one record's
+ * cluster break and emoji mark. The state before the first record is EZH_GRAPHEME_START, 0, 0, 0. Odd: an odd number of RI stand before.
+ * Extended: a record with the emoji mark stands before, and only EX behind it. Joined: such a record, EX, then ZWJ.
+ * Results: EZH_GRAPHEME_CELLS.
+ * Refusals: 9 (results), 4 (record, index 0) for a class or mark outside its list, 8 for a state that no text leads to. With a refusal
+ * the state is the one given and the answer 0.
+ */
+uint64_t ezh_step_grapheme(uint64_t previous, uint64_t odd, uint64_t extended, uint64_t joined, uint64_t cluster_break,
+                           uint64_t semoji, uint64_t *results, size_t results_count);
 
 /*
  * The ranges of the lines of a property file, EZH_FILE_CLUSTER or EZH_FILE_WORD, put into range columns of which the first `held` cells

@@ -1,6 +1,6 @@
 /*
  * The story's label, U+1004 U+103A U+1039, a Myanmar kinzi at the end of the text, in both modes; then the same label with a class that
- * is in no list, and other calls that are refused; then words and lines.
+ * is in no list, and other calls that are refused; then words, lines and UAX #29's clusters.
  */
 #include <stdio.h>
 
@@ -123,6 +123,36 @@ static void print_lines(void) {
     printf("a table without its last cell: refused %d\n", (int)refusal);
 }
 
+/* A flag of two RI, a third RI, a letter with its mark, and two emoji joined by ZWJ, of which the first has a mark: by the engine that goes
+ * forward, by the one that looks back, and by steps from the start. Then a mark that is none. */
+static void print_graphemes(void) {
+    enum { COUNT = 9 };
+    const uint8_t breaks[COUNT] = {EZH_BREAK_RI, EZH_BREAK_RI, EZH_BREAK_RI, EZH_BREAK_XX, EZH_BREAK_EX,
+                                   EZH_BREAK_XX, EZH_BREAK_EX, EZH_BREAK_ZWJ, EZH_BREAK_XX};
+    uint8_t emojis[COUNT] = {0, 0, 0, 0, 0, 1, 0, 0, 1};
+    uint8_t out[COUNT];
+    uint64_t results[EZH_GRAPHEME_CELLS] = {0, 0, 0, EZH_GRAPHEME_START, 0, 0, 0};
+    ezh_run_graphemes(breaks, COUNT, emojis, COUNT, out, COUNT, results, EZH_CHECK_CELLS);
+    printf("clusters of UAX #29:");
+    for (int i = 0; i < COUNT; i++) {
+        printf(" %d", out[i]);
+    }
+    ezh_run_graphemes_back(breaks, COUNT, emojis, COUNT, out, COUNT, results, EZH_CHECK_CELLS);
+    printf("\nlooking back:       ");
+    for (int i = 0; i < COUNT; i++) {
+        printf(" %d", out[i]);
+    }
+    printf("\nstep by step:       ");
+    for (int i = 0; i < COUNT; i++) {
+        ezh_step_grapheme(results[EZH_GRAPHEME_PREVIOUS], results[EZH_GRAPHEME_ODD], results[EZH_GRAPHEME_EXTENDED],
+                          results[EZH_GRAPHEME_JOINED], breaks[i], emojis[i], results, EZH_GRAPHEME_CELLS);
+        printf(" %d", (int)results[EZH_GRAPHEME_ANSWER]);
+    }
+    emojis[4] = 2;
+    uint64_t refusal = ezh_check_graphemes(breaks, COUNT, emojis, COUNT, results, EZH_CHECK_CELLS);
+    printf("\na mark that is none: refused %d, side %d, index %d\n", (int)refusal, (int)results[EZH_SIDE], (int)results[EZH_INDEX]);
+}
+
 int main(void) {
     const uint8_t kinzi[RECORDS] = {EZH_MYANMAR_C, EZH_MYANMAR_AS, EZH_MYANMAR_H};
     const uint8_t unlisted[RECORDS] = {EZH_MYANMAR_C, EZH_MYANMAR_AS, EZH_MYANMAR_REST + 1};
@@ -134,5 +164,6 @@ int main(void) {
     print_refusals(label(kinzi));
     print_words();
     print_lines();
+    print_graphemes();
     return 0;
 }

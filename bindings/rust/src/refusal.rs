@@ -48,7 +48,7 @@ impl Refusal {
             5 => "a count of parts is over 3, or the parts go past the last one",
             6 => "U+034F has a USE class that the complex parser looks for behind the marks CMAbv of a base",
             7 => "a Khmer sign that is split has other parts than U+17C1",
-            8 => "the place is neither a token nor the end, or the word or line state is none",
+            8 => "the place is neither a token nor the end, or the state of a step is none",
             10 => "a line table is not whole rows of 44, has fewer than 45, or names a row that it has not",
             _ => "an output column is too short",
         }

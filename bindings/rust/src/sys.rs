@@ -1,5 +1,8 @@
 //! The functions of the static library, as include/ezherbut.h has them.
 
+/// An engine of UAX #29's clusters.
+pub(crate) type GraphemeRun = unsafe extern "C" fn(*const u8, usize, *const u8, usize, *mut u8, usize, *mut u64, usize) -> u64;
+
 /// Declares functions that take a text: its 18 columns, each as a pointer and a count, after the parameters before the semicolon.
 macro_rules! over_a_text {
     ($(fn $name:ident($($before:ident: $before_type:ty),*; $($after:ident: $after_type:ty),*);)*) => {
@@ -118,6 +121,44 @@ extern "C" {
         pictograph: u64,
         rest: *const u8,
         rest_count: usize,
+        results: *mut u64,
+        results_count: usize,
+    ) -> u64;
+    pub(crate) fn ezh_check_graphemes(
+        breaks: *const u8,
+        breaks_count: usize,
+        semojis: *const u8,
+        semojis_count: usize,
+        results: *mut u64,
+        results_count: usize,
+    ) -> u64;
+    pub(crate) fn ezh_run_graphemes(
+        breaks: *const u8,
+        breaks_count: usize,
+        semojis: *const u8,
+        semojis_count: usize,
+        out: *mut u8,
+        out_count: usize,
+        results: *mut u64,
+        results_count: usize,
+    ) -> u64;
+    pub(crate) fn ezh_run_graphemes_back(
+        breaks: *const u8,
+        breaks_count: usize,
+        semojis: *const u8,
+        semojis_count: usize,
+        out: *mut u8,
+        out_count: usize,
+        results: *mut u64,
+        results_count: usize,
+    ) -> u64;
+    pub(crate) fn ezh_step_grapheme(
+        previous: u64,
+        odd: u64,
+        extended: u64,
+        joined: u64,
+        cluster_break: u64,
+        semoji: u64,
         results: *mut u64,
         results_count: usize,
     ) -> u64;

@@ -1,6 +1,6 @@
 //! A text as columns, and a builder of them.
 
-use crate::{Clusters, Mode, Parser, Pieces, Refusal, Run, Strength, Words};
+use crate::{Clusters, Graphemes, Mode, Parser, Pieces, Refusal, Run, Strength, Words};
 
 /// A lent text: 14 columns with a cell for each record, four with a cell for each part. Columns of any lengths and any codes may be lent;
 /// every call checks them and refuses what is not a text.
@@ -227,6 +227,11 @@ impl Text {
     /// See [`Columns::words`].
     pub fn words(&self) -> Result<Words, Refusal> {
         self.columns().words()
+    }
+
+    /// See [`Columns::graphemes`].
+    pub fn graphemes(&self) -> Result<Graphemes, Refusal> {
+        self.columns().graphemes()
     }
 
     /// See [`Columns::lines`].

@@ -3,6 +3,7 @@
 use std::ops::Range;
 
 use crate::codes::word_break;
+use crate::starts::Starts;
 use crate::{sys, Columns, Refusal};
 
 /// Whether two columns, word class and pictograph mark, are fit for a word run.
@@ -67,26 +68,19 @@ impl Columns<'_> {
     pub fn words(self) -> Result<Words, Refusal> {
         let mut starts = vec![0; self.words.len()];
         word_run(self.words, self.pictographs, &mut starts)?;
-        Ok(Words { starts, at: 0 })
+        Ok(Words(Starts::new(starts)))
     }
 }
 
 /// The words of a text, each as the range of its records.
 #[derive(Clone, Debug)]
-pub struct Words {
-    /// 1 where a word begins.
-    starts: Vec<u8>,
-    at: usize,
-}
+pub struct Words(Starts);
 
 impl Iterator for Words {
     type Item = Range<usize>;
 
     fn next(&mut self) -> Option<Range<usize>> {
-        let start = self.at;
-        let later = self.starts.get(start + 1..)?;
-        self.at = start + 1 + later.iter().position(|&begins| begins == 1).unwrap_or(later.len());
-        Some(start..self.at)
+        self.0.next()
     }
 }
 

@@ -5,7 +5,7 @@ use std::collections::BTreeMap;
 use std::fs;
 
 use ezherbut::codes::PAIR_TABLE;
-use ezherbut::{line_run, word_check, word_run, BoundaryState, LineState};
+use ezherbut::{grapheme_check, grapheme_run, grapheme_run_back, line_run, word_check, word_run, BoundaryState, LineState};
 use ezherbut::{Boundary, Cluster, Columns, Emoji, Mode, Parser, Refusal, Side, Space, Strength, WordState};
 
 /// The columns of a case, of any codes.
@@ -180,17 +180,21 @@ fn bytes(list: &str) -> Vec<u8> {
     list.split(',').map(|field| field.parse().unwrap()).collect()
 }
 
-fn words_case(fields: &[&str]) -> String {
-    let &[room, words] = fields else {
+type Check = fn(&[u8], &[u8]) -> Result<(), Refusal>;
+type Run = fn(&[u8], &[u8], &mut [u8]) -> Result<(), Refusal>;
+
+/// A run over classes and marks: of words, or of an engine of UAX #29's clusters.
+fn marked_case(check: Check, run: Run, fields: &[&str]) -> String {
+    let &[room, records] = fields else {
         panic!("{fields:?}");
     };
-    let pairs: Vec<Vec<u8>> = words.split(' ').filter(|item| !item.is_empty()).map(bytes).collect();
+    let pairs: Vec<Vec<u8>> = records.split(' ').filter(|item| !item.is_empty()).map(bytes).collect();
     let column = |at: usize| -> Vec<u8> { pairs.iter().map(|pair| pair[at]).collect() };
-    let (words, pictographs) = (column(0), column(1));
+    let (classes, marks) = (column(0), column(1));
     let mut out = vec![7; room.parse().unwrap()];
-    let run = word_run(&words, &pictographs, &mut out);
-    hold_to_check(word_check(&words, &pictographs), &run);
-    cells(&out, run, words.len())
+    let answer = run(&classes, &marks, &mut out);
+    hold_to_check(check(&classes, &marks), &answer);
+    cells(&out, answer, classes.len())
 }
 
 fn word_state(list: &str) -> WordState {
@@ -302,7 +306,9 @@ fn answer(line: &str) -> (char, String) {
     let fields: Vec<&str> = line.split(';').collect();
     let kind = fields[0].chars().next().unwrap();
     let answer = match kind {
-        'W' => words_case(&fields[1..]),
+        'W' => marked_case(word_check, word_run, &fields[1..]),
+        'G' => marked_case(grapheme_check, grapheme_run_back, &fields[1..]),
+        'g' => marked_case(grapheme_check, grapheme_run, &fields[1..]),
         'w' => word_step_case(&fields[1..]),
         'L' => lines_case(&fields[1..]),
         'l' => line_step_case(&fields[1..]),
@@ -337,7 +343,7 @@ fn the_fixed_lists() {
     }
     println!("compared: {compared:?}");
     // each kind has its cases, so that a list that is read wrongly does not pass
-    for (kinds, least) in [("SMCWwsmc", 400), ("lnL", 20)] {
+    for (kinds, least) in [("SMCWwsmc", 400), ("Gg", 100), ("lnL", 20)] {
         for kind in kinds.chars() {
             assert!(compared.get(&kind).is_some_and(|&count| least < count), "{kind}: {compared:?}");
         }

@@ -53,7 +53,7 @@ fn an_empty_text() {
     let past = EMPTY.step(Parser::Simple, Mode::Whole, 1).unwrap_err();
     assert_eq!(
         past.to_string(),
-        "refusal 8: the place is neither a token nor the end, or the word or line state is none"
+        "refusal 8: the place is neither a token nor the end, or the state of a step is none"
     );
 }
 

@@ -10,7 +10,8 @@ use std::hint::black_box;
 use std::thread;
 
 use ezherbut::codes::{category, cluster_break, line_break, myanmar_class, use_class, word_break, PAIR_TABLE};
-use ezherbut::{line_run, word_check, word_run, BoundaryState, Columns, LineState, Mode, Parser, Properties, Strength, WordState};
+use ezherbut::{grapheme_run, grapheme_run_back, line_run, word_check, word_run, BoundaryState, Columns, GraphemeState};
+use ezherbut::{LineState, Mode, Parser, Properties, Strength, WordState};
 
 const THREAD: usize = 256 * 1024;
 const LABEL: usize = 16 * 1024;
@@ -146,7 +147,7 @@ fn texts(tokens: usize) -> Vec<Lent> {
     ]
 }
 
-/// The columns that a full run, a word run and a run of lines write.
+/// The columns that a full run and the runs of words, lines and UAX #29's clusters write.
 struct Out {
     scalars: Vec<u32>,
     classes: Vec<u8>,
@@ -193,6 +194,12 @@ fn every_call(text: &Lent, out: &mut Out, within: impl Fn(&mut dyn FnMut())) {
     within(&mut || accepted = word_check(columns.words, columns.pictographs).is_ok());
     assert!(accepted, "{}", text.name);
     within(&mut || accepted = word_run(columns.words, columns.pictographs, &mut out.words).is_ok());
+    assert!(accepted, "{}", text.name);
+    for run in [grapheme_run, grapheme_run_back] {
+        within(&mut || accepted = run(columns.breaks, columns.semojis, &mut out.words).is_ok());
+        assert!(accepted, "{}", text.name);
+    }
+    within(&mut || accepted = GraphemeState::START.step(cluster_break::XX, 0).is_ok());
     assert!(accepted, "{}", text.name);
     within(&mut || accepted = WordState::START.step(word_break::OTHER, 0, columns.words).is_ok());
     assert!(accepted, "{}", text.name);
