@@ -35,7 +35,7 @@ abbrev pub badKept : Kept → Bool
 badKept k = ltb 1 (k .odd) || (ltb 1 (k .extended) || ltb 1 (k .joined))
 
 abbrev pub graphemeFrom : Kept → ℕ → ℕ → GraphemeStep
-graphemeFrom k class emoji = stepOf (keptOf k) (record { kind = narrow class; mark = narrow emoji })
+graphemeFrom k class emoji = stepOf (keptOf k) (narrow class) (narrow emoji)
 
 unfoldable pub graphemeJudged : Kept → GraphemeStep → Verdict
 graphemeJudged k s = judged (s .verdict) (badKept k)

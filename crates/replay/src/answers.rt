@@ -33,8 +33,8 @@ pub(crate) fn cells(to: &mut Buffer, at: usize, answers: &[u8; CELLS], n: usize)
 fn run_by(machine: Machine, classes: &[u8], marks: &[u8], out: &mut [u8]) -> Verdict {
     match machine {
         Machine::Words => words::run(classes, marks, out),
-        Machine::Back => uax29::graphemes_back(classes, marks, out),
-        Machine::Forward => uax29::graphemes_forward(classes, marks, out),
+        Machine::Back => uax29::graphemes::graphemes_back(classes, marks, out),
+        Machine::Forward => uax29::graphemes::graphemes_forward(classes, marks, out),
     }
 }
 
