@@ -296,8 +296,8 @@ uint64_t ezh_check_graphemes(const uint8_t *breaks, size_t breaks_count, const u
  * A run over UAX #29's clusters: 1 for each record that a cluster starts at, else 0; the first record starts one. Any record may have the
  * emoji mark: the rules look at characters, not at what a font shows. Results: EZH_CHECK_CELLS.
  * Refusals: 9 (results), 1, 2, 4, and 9 where out has fewer cells than there are records.
- * ezh_run_graphemes goes forward with a small state, in time that a record has a fixed share of; ezh_run_graphemes_back looks back from
- * each record and gives the same answers.
+ * ezh_run_graphemes goes forward with a small state and looks at each record once; ezh_run_graphemes_back looks back from each record and
+ * gives the same answers.
  */
 uint64_t ezh_run_graphemes(const uint8_t *breaks, size_t breaks_count, const uint8_t *semojis, size_t semojis_count, uint8_t *out,
                            size_t out_count, uint64_t *results, size_t results_count);
