@@ -8,6 +8,8 @@ GRAPHEME_NAMES = {"Control": "CN", "Extend": "EX", "SpacingMark": "SM", "Regiona
 WORD_NAMES = {"Newline": "NL", "Format": "FO", "Katakana": "KA", "Hebrew_Letter": "HL", "Single_Quote": "SQ",
               "Double_Quote": "DQ", "MidLetter": "ML", "MidNum": "MN", "Numeric": "NU", "ExtendNumLet": "EX",
               "Regional_Indicator": "RI"}
+# the scripts whose consonants and viramas Unicode 15.1 joins
+CONJUNCT_SCRIPTS = {"Bengali", "Devanagari", "Gujarati", "Malayalam", "Oriya", "Telugu"}
 
 
 def lines(folder, name):
@@ -39,14 +41,22 @@ def having(folder, name, wanted):
     return {scalar for scalars, value in rows(folder, name) if value == wanted for scalar in scalars}
 
 
-def general_categories(folder):
-    """Each assigned scalar's category by UnicodeData.txt, in which a range is a line `<…, First>` and a line `<…, Last>`."""
+def assigned(folder, field):
+    """Each assigned scalar's value in a field of UnicodeData.txt, in which a range is a line `<…, First>` and a line `<…, Last>`."""
     found, last = {}, -1
     for line in lines(folder, "UnicodeData.txt"):
-        scalar, name, category, *_ = line.split(";")
-        first, last = last + 1, int(scalar, 16)
-        found.update(dict.fromkeys(range(first if name.endswith(", Last>") else last, last + 1), category))
+        fields = line.split(";")
+        first, last = last + 1, int(fields[0], 16)
+        found.update(dict.fromkeys(range(first if fields[1].endswith(", Last>") else last, last + 1), fields[field]))
     return found
+
+
+def general_categories(folder):
+    return assigned(folder, 2)
+
+
+def combining_classes(folder):
+    return assigned(folder, 3)
 
 
 def grapheme_breaks(folder):
@@ -68,3 +78,17 @@ def wide(folder):
 
 def pictographs(folder):
     return having(folder, "emoji/emoji-data.txt", "Extended_Pictographic")
+
+
+def conjuncts(folder):
+    """Indic_Conjunct_Break, which Unicode 15.1 derives from older properties: a virama of one of six scripts is a linker, a consonant of
+    them is one; ZWJ and every extender that combines (another class than 0) and is no virama of any script is an extend."""
+    scripts, syllables = values(folder, "Scripts.txt"), values(folder, "IndicSyllabicCategory.txt")
+    combining = combining_classes(folder)
+    names = {"Virama": "linker", "Consonant": "consonant"}
+    found = {scalar: names[value] for scalar, value in syllables.items() if value in names and scripts.get(scalar) in CONJUNCT_SCRIPTS}
+    for scalar, value in grapheme_breaks(folder).items():
+        extender = value == "EX" and combining.get(scalar, "0") != "0" and syllables.get(scalar) != "Virama"
+        if value == "ZWJ" or extender:
+            found[scalar] = "extend"
+    return found

@@ -54,6 +54,16 @@ class PropertyFiles(unittest.TestCase):
         self.assertEqual(property_files.general_categories(self.folder),
                          {0x41: "Lu", 0x3400: "Lo", 0x3401: "Lo", 0x3402: "Lo", 0x3403: "Lo", 0x4DC0: "So"})
 
+    def test_conjuncts_are_derived(self):
+        for name, text in {
+                "Scripts.txt": "0915..0916 ; Devanagari\n093C ; Devanagari\n094D ; Devanagari\n0B95 ; Tamil\n0BCD ; Tamil\n200D ; Inherited\n",
+                "IndicSyllabicCategory.txt": "0915..0916 ; Consonant\n0B95 ; Consonant\n093C ; Nukta\n094D ; Virama\n0BCD ; Virama\n",
+                "auxiliary/GraphemeBreakProperty.txt": "034F ; Extend\n093C ; Extend\n094D ; Extend\n0BCD ; Extend\n200C ; Extend\n200D ; ZWJ\n",
+                "UnicodeData.txt": "034F;CGJ;Mn;0\n093C;NUKTA;Mn;7\n094D;VIRAMA;Mn;9\n0BCD;VIRAMA;Mn;9\n200C;ZWNJ;Cf;0\n200D;ZWJ;Cf;0\n"}.items():
+            (self.folder / name).write_text(text)
+        self.assertEqual(property_files.conjuncts(self.folder),
+                         {0x915: "consonant", 0x916: "consonant", 0x94D: "linker", 0x93C: "extend", 0x200D: "extend"})
+
     def test_what_is_not_of_the_layout_is_an_error(self):
         for line in ("0041", "0041 ; A ; B", "G ; A"):
             (self.folder / "PropList.txt").write_text(line)
