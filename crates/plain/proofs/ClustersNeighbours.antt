@@ -13,7 +13,7 @@ use Rattle.basics.proofs.Tests.{by-test, both}
 use Rattle.basics.specs.Sets.{member}
 use Rattle.classes.specs.ClusterBreak.{XX, CN, CR, LF, EX, SM, ZWJ}
 use Rattle.records.specs.Text.{cell}
-use Rattle.uax29.specs.Clusters.{controls, Item, is, isNot, among, pictographic, anything, edge, any, one, next, many, applies, decide, rules, itemAt, beforeOf, boundaryAt, GB1, GB2, GB3, GB4, GB5, GB6, GB7, GB8, GB9, GB9a, GB9b, GB11, GB12, GB13, GB999}
+use Rattle.uax29.specs.Clusters.{controls, Item, is, isNot, among, pictographic, anything, edge, any, one, next, many, applies, decide, rules, itemAt, beforeIn, beforeOf, boundaryAt, GB1, GB2, GB3, GB4, GB5, GB6, GB7, GB8, GB9, GB9a, GB9b, GB11, GB12, GB13, GB999}
 use Rattle.uax29.proofs.ClustersSides.{some-after}
 use Rattle.plain.specs.Clusters.{plainKinds, extensions}
 
@@ -81,27 +81,27 @@ module _ (breaks marks : List ℕ) (i : ℕ) where
       decide rules (beforeOf breaks marks (suc i)) (y ∷ ys)
       ≡ says (eqb (cell breaks i) CR && eqb (y .kind) LF) (member controls (cell breaks i)) (member controls (y .kind))
       (member (EX ∷ ZWJ ∷ []) (y .kind)) (eqb (y .kind) SM) (Z breaks marks (suc i) && eqb (y .mark) 1)
-  unfolding decide applies beforeOf GB1 GB2 GB3 GB4 GB5 GB6 GB7 GB8 GB9 GB9a GB9b GB11 GB12 GB13 GB999 is isNot among pictographic anything edge any one next says
+  unfolding decide applies beforeIn GB1 GB2 GB3 GB4 GB5 GB6 GB7 GB8 GB9 GB9a GB9b GB11 GB12 GB13 GB999 is isNot among pictographic anything edge any one next says
   decide-plain y ys h = kind-case
-      (λ k. decide rules (record { kind = k; mark = cell marks i } ∷ beforeOf breaks marks i) (y ∷ ys)
+      (λ k. decide rules (record { kind = k; mark = cell marks i; conjunct = 0 } ∷ beforeOf breaks marks i) (y ∷ ys)
       ≡ says (eqb k CR && eqb (y .kind) LF) (member controls k) (member controls (y .kind))
       (member (EX ∷ ZWJ ∷ []) (y .kind)) (eqb (y .kind) SM) ((eqb k ZWJ && P breaks marks i) && eqb (y .mark) 1))
       refl refl refl refl refl refl refl (cell breaks i) h
 
   pub P-next : P breaks marks (suc i) ≡ (eqb (cell marks i) 1 || (eqb (cell breaks i) EX && P breaks marks i))
-  unfolding many one is pictographic beforeOf
+  unfolding many one is pictographic beforeIn
   P-next = refl
 
   pub Z-next : Z breaks marks (suc i) ≡ (eqb (cell breaks i) ZWJ && P breaks marks i)
-  unfolding next is beforeOf
+  unfolding next is beforeIn
   Z-next = refl
 
 pub P-start : (breaks marks : List ℕ) → P breaks marks 0 ≡ false
-unfolding many one beforeOf
+unfolding many one beforeIn
 P-start breaks marks = refl
 
 pub Z-start : (breaks marks : List ℕ) → Z breaks marks 0 ≡ false
-unfolding next beforeOf
+unfolding next beforeIn
 Z-start breaks marks = refl
 
 -- no rule that the parser's last loop does not know joins the character at the place to those before it

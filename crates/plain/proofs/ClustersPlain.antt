@@ -33,7 +33,7 @@ use Rattle.segment.specs.Runs.{callsFrom}
 use Rattle.segment.proofs.Progress.{progress}
 use Rattle.segment.proofs.CallTurns.{call-within}
 use Rattle.segment.proofs.Coverage.{accepted-short}
-use Rattle.uax29.specs.Clusters.{controls, applies, decide, edge, any, GB1, beforeOf, boundaryAt, placesFrom, boundaries}
+use Rattle.uax29.specs.Clusters.{controls, applies, decide, edge, any, GB1, beforeIn, beforeOf, boundaryAt, placesFrom, boundaries}
 use Rattle.uax29.proofs.ClustersSides.{some-after}
 use Rattle.plain.specs.Clusters.{plainKinds, extensions, plainMark, plainPair, plainAt, allShort, isPlain, startsFrom, clusterStarts}
 use Rattle.plain.proofs.ClustersNeighbours.{Columns, Calm, calm-parts}
@@ -127,7 +127,7 @@ plain-columns breaks marks e = record {
 
 -- GB1
 pub starts-at-0 : (breaks marks : List ℕ) → 0 < length breaks → boundaryAt breaks marks 0 ≡ true
-unfolding boundaryAt decide applies beforeOf GB1 edge any
+unfolding boundaryAt decide applies beforeIn GB1 edge any
 starts-at-0 breaks marks h = rw (le-ltb (length breaks) 0 (omega arith), some-after breaks marks 0 h)
 
 module _ (mode : Mode) (stream breaks marks : List ℕ) (short : length stream ≤ 65535) (shows : Shows stream breaks marks) (plain : Columns breaks marks) where

@@ -10,7 +10,7 @@ use lib.ListN.{length}
 use borrow.Author.Tests.{lt-ltb, le-ltb, ltb-true, ltb-false, le-leb, lt-leb, eq-eqb, ne-eqb}
 use Rattle.basics.proofs.Tests.{by-test}
 use Rattle.records.specs.Text.{cell}
-use Rattle.uax29.specs.Clusters.{Item, Test, Side, Rule, is, isNot, among, pictographic, edge, any, one, next, many, pairs, applies, decide, itemAt, beforeOf, itemsFrom, afterOf, rules, boundaryAt}
+use Rattle.uax29.specs.Clusters.{Item, Test, Side, Rule, is, isNot, among, pictographic, edge, any, one, next, many, pairs, applies, decide, itemAt, beforeIn, beforeOf, itemsFrom, afterOf, rules, boundaryAt}
 use Rattle.uax29.specs.ClustersBack.{beyond}
 
 not-lt : (i n : ℕ) → not (ltb i n) ≡ leb n i
@@ -21,20 +21,20 @@ not-lt i n = by-test (ltb i n)
 -- the characters on the two sides of a place
 module _ (breaks marks : List ℕ) (at : ℕ) where
   pub none-before : at ≡ 0 → beforeOf breaks marks at ≡ []
-  unfolding beforeOf
+  unfolding beforeIn
   none-before e = rw e
 
   pub some-before : (at ≡ 0 → ⊥) → beforeOf breaks marks at ≡ itemAt breaks marks (at - 1) ∷ beforeOf breaks marks (at - 1)
-  unfolding beforeOf
+  unfolding beforeIn
   some-before n = let e : at ≡ suc (at - 1) = omega arith in ap (beforeOf breaks marks) e
 
   pub none-after : length breaks ≤ at → afterOf breaks marks at ≡ []
   unfolding itemsFrom
-  none-after l = let e : length breaks - at ≡ 0 = omega arith in ap (itemsFrom breaks marks at) e
+  none-after l = let e : length breaks - at ≡ 0 = omega arith in ap (itemsFrom breaks marks [] at) e
 
-  pub some-after : at < length breaks → afterOf breaks marks at ≡ itemAt breaks marks at ∷ itemsFrom breaks marks (at + 1) (length breaks - at - 1)
+  pub some-after : at < length breaks → afterOf breaks marks at ≡ itemAt breaks marks at ∷ itemsFrom breaks marks [] (at + 1) (length breaks - at - 1)
   unfolding itemsFrom
-  some-after l = let e : length breaks - at ≡ suc (length breaks - at - 1) = omega arith in ap (itemsFrom breaks marks at) e
+  some-after l = let e : length breaks - at ≡ suc (length breaks - at - 1) = omega arith in ap (itemsFrom breaks marks [] at) e
 
   -- no character
   pub before-not-there : (p : Test) → at ≡ 0 → false ≡ one p (beforeOf breaks marks at)
@@ -106,7 +106,7 @@ pub ruleset sides = (both-not, both-then, left-only, among-first, among-next, am
 -- the edges of the text
 module _ (breaks marks : List ℕ) (at : ℕ) where
   edge-before : edge (beforeOf breaks marks at) ≡ eqb at 0
-  unfolding edge beforeOf
+  unfolding edge beforeIn
   edge-before = go at
     where
       go : (i : ℕ) → edge (beforeOf breaks marks i) ≡ eqb i 0
@@ -202,7 +202,7 @@ pub ruleset nexts = (next-none, next-not, next-then)
 
 -- a test of a character that holds has a character
 pub there : (breaks marks : List ℕ) (at : ℕ) (p : Test) (t : Bool) → t ≡ one p (beforeOf breaks marks at) → t ≡ true → 0 < at
-unfolding one beforeOf
+unfolding one beforeIn
 there breaks marks zero p t e h = absurd (false≢true (sym e ∙ h))
 there breaks marks (suc at) p t e h = omega arith
 
@@ -265,7 +265,7 @@ beyond-pair p x y xs h = rw h
 -- The loop: the place i goes down by pairs.
 module _ (breaks marks : List ℕ) (at i : ℕ) (p : Test) (inv : beyond p (beforeOf breaks marks i) ≡ beyond p (beforeOf breaks marks at)) (t : Bool) (et : t ≡ next p (one p) (beforeOf breaks marks i)) where
   pub pair-there : t ≡ true → 2 ≤ i
-  unfolding next one beforeOf
+  unfolding next one beforeIn
   pair-there h = go i (sym et ∙ h)
     where
       go : (j : ℕ) → next p (one p) (beforeOf breaks marks j) ≡ true → 2 ≤ j
@@ -286,7 +286,7 @@ module _ (breaks marks : List ℕ) (at i : ℕ) (p : Test) (inv : beyond p (befo
       go (x ∷ y ∷ xs) k = rw k
 
   pub pair-turns : t ≡ true → beyond p (beforeOf breaks marks (i - 2)) ≡ beyond p (beforeOf breaks marks at)
-  unfolding next one beforeOf
+  unfolding next one beforeIn
   pair-turns h = go i (sym et ∙ h) ∙ inv
     where
       go : (j : ℕ) → next p (one p) (beforeOf breaks marks j) ≡ true → beyond p (beforeOf breaks marks (j - 2)) ≡ beyond p (beforeOf breaks marks j)

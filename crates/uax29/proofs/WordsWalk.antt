@@ -3,14 +3,14 @@
 use Prim.Native.Nat.{ℕ, zero, suc, _+_, _-_, _<_, _≤_}
 use mathlib.Core.Path.{_≡_, refl, sym, _∙_, ap}
 use mathlib.Core.Bool.{Bool, true, false, cond}
-use mathlib.Core.List.{List, _∷_}
+use mathlib.Core.List.{List, [], _∷_}
 use native.Mathlib.Omega.{arith}
 use native.Mathlib.Numerals.{add-one}
 use lib.ListN.{length, set}
 use Rattle.basics.proofs.Columns.{Written, written-more}
 use Rattle.classes.specs.WordBreak.{Other}
 use Rattle.records.specs.Text.{cell}
-use Rattle.uax29.specs.Rules.{Item, among, itemAt, beforeOf, itemsFrom}
+use Rattle.uax29.specs.Rules.{Item, among, itemAt, beforeIn, beforeOf, itemsFrom}
 use Rattle.uax29.specs.Words.{passed, boundaryAt}
 use Rattle.uax29.specs.declared.words.Seen.{Seen}
 use Rattle.uax29.specs.declared.words.Set.the-variants.{Ignored}
@@ -36,13 +36,13 @@ kind-under true xs x ys k e = e
 kind-under false xs x ys k e = refl
 
 module _ (words pictographs : List ℕ) where
-  pub ahead-is : (n i : ℕ) → kindOf (passed (itemsFrom words pictographs i n)) ≡ ahead words i n
+  pub ahead-is : (n i : ℕ) → kindOf (passed (itemsFrom words pictographs [] i n)) ≡ ahead words i n
   unfolding passed itemsFrom ahead among
   ahead-is zero i = refl
-  ahead-is (suc n) i = kind-under (holds Ignored (cell words i)) (passed (itemsFrom words pictographs (i + 1) n)) (itemAt words pictographs i) (itemsFrom words pictographs (i + 1) n) (ahead words (i + 1) n) (ahead-is n (i + 1))
+  ahead-is (suc n) i = kind-under (holds Ignored (cell words i)) (passed (itemsFrom words pictographs [] (i + 1) n)) (itemAt words pictographs i) (itemsFrom words pictographs [] (i + 1) n) (ahead words (i + 1) n) (ahead-is n (i + 1))
 
   pub seen-is : (i : ℕ) → seenOf (beforeOf words pictographs i) ≡ seenAt words i
-  unfolding seenAt beforeOf
+  unfolding seenAt beforeIn
   seen-is zero = seen-none
   seen-is (suc i) = seen-after (itemAt words pictographs i) (beforeOf words pictographs i) ∙ ap (λ s. after s (cell words i)) (seen-is i)
 
@@ -51,7 +51,7 @@ module _ (words pictographs : List ℕ) where
   unfolding boundaryAt itemsFrom
   boundary-is i l =
       let e : length words - i ≡ suc (length words - (i + 1)) = omega arith in
-      rw (e, decides (beforeOf words pictographs i) (itemAt words pictographs i) (itemsFrom words pictographs (i + 1) (length words - (i + 1))), seen-is i, ahead-is (length words - (i + 1)) (i + 1))
+      rw (e, decides (beforeOf words pictographs i) (itemAt words pictographs i) (itemsFrom words pictographs [] (i + 1) (length words - (i + 1))), seen-is i, ahead-is (length words - (i + 1)) (i + 1))
 
   -- the code's turn at record i: what each call said
   pub turn-cells : (i b mark next answer : ℕ) (s : Seen) (test : Bool) (out₀ out : List ℕ)

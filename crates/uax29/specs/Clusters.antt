@@ -7,7 +7,7 @@ use lib.Dec.{ltb}
 use lib.ListN.{length}
 use Rattle.classes.specs.ClusterBreak.{CN, CR, LF, L, «V», T, LV, LVT, RI, EX, SM, ZWJ, PP}
 pub use Rattle.uax29.specs.Rules.{Item, Rule}
-unfoldable pub use Rattle.uax29.specs.Rules.{Test, is, isNot, among, pictographic, Side, anything, edge, any, one, next, many, pairs, _÷_, _⨯_, applies, decide, itemAt, beforeOf, itemsFrom, afterOf}
+unfoldable pub use Rattle.uax29.specs.Rules.{Test, is, isNot, among, pictographic, Side, anything, edge, any, one, next, many, pairs, _÷_, _⨯_, applies, decide, itemIn, beforeIn, itemsFrom, afterIn, itemAt, beforeOf, afterOf}
 
 abbrev pub controls : List ℕ
 controls = CN ∷ CR ∷ LF ∷ []

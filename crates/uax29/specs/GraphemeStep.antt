@@ -61,7 +61,7 @@ keptRules s =
 
 -- the last record; its mark is asked by GB11 alone
 unfoldable pub near : GraphemeState → List Item
-near s = cond (eqb (s .previous) noClass) [] (record { kind = s .previous; mark = 0 } ∷ [])
+near s = cond (eqb (s .previous) noClass) [] (record { kind = s .previous; mark = 0; conjunct = 0 } ∷ [])
 
 unfoldable pub starts : GraphemeState → Item → Bool
 starts s x = decide (keptRules s) (near s) (x ∷ [])
@@ -69,7 +69,7 @@ starts s x = decide (keptRules s) (near s) (x ∷ [])
 -- # The step
 
 abbrev pub item : ℕ → ℕ → Item
-item kind mark = record { kind = kind; mark = mark }
+item kind mark = record { kind = kind; mark = mark; conjunct = 0 }
 
 -- 4
 abbrev pub badRecord : ℕ → ℕ → Bool

@@ -7,10 +7,12 @@ use lib.ListN.{length}
 use Rattle.basics.specs.Sets.{member}
 use Rattle.records.specs.Text.{cell}
 
--- a character as the rules see it: the code of its class, and 1 where it is Extended_Pictographic
+-- a character as the rules see it: the code of its class, 1 where it is Extended_Pictographic, and the code of its part in a conjunct,
+-- which no rule of Unicode 15.0 asks for
 pub record Item : Type 0 where
   pub kind : ℕ
   pub mark : ℕ
+  pub conjunct : ℕ
 
 abbrev pub Test : Type 0
 Test = Item → Bool
@@ -89,20 +91,30 @@ unfoldable pub decide : List Rule → List Item → List Item → Bool
 decide [] before after = false
 decide (r ∷ rs) before after = cond (applies r before after) (r .parts) (decide rs before after)
 
--- The characters of two columns, the classes and the marks; a mark past the end of its column is no.
-abbrev pub itemAt : List ℕ → List ℕ → ℕ → Item
-itemAt classes marks i = record { kind = cell classes i; mark = cell marks i }
+-- The characters of three columns, the classes, the marks and the conjunct codes; what is past the end of its column is 0: no mark, none.
+abbrev pub itemIn : List ℕ → List ℕ → List ℕ → ℕ → Item
+itemIn classes marks conjuncts i = record { kind = cell classes i; mark = cell marks i; conjunct = cell conjuncts i }
 
 -- those before a place
-unfoldable pub beforeOf : List ℕ → List ℕ → ℕ → List Item
-beforeOf classes marks zero = []
-beforeOf classes marks (suc i) = itemAt classes marks i ∷ beforeOf classes marks i
+unfoldable pub beforeIn : List ℕ → List ℕ → List ℕ → ℕ → List Item
+beforeIn classes marks conjuncts zero = []
+beforeIn classes marks conjuncts (suc i) = itemIn classes marks conjuncts i ∷ beforeIn classes marks conjuncts i
 
 -- n from a place on
-unfoldable pub itemsFrom : List ℕ → List ℕ → ℕ → ℕ → List Item
-itemsFrom classes marks i zero = []
-itemsFrom classes marks i (suc n) = itemAt classes marks i ∷ itemsFrom classes marks (i + 1) n
+unfoldable pub itemsFrom : List ℕ → List ℕ → List ℕ → ℕ → ℕ → List Item
+itemsFrom classes marks conjuncts i zero = []
+itemsFrom classes marks conjuncts i (suc n) = itemIn classes marks conjuncts i ∷ itemsFrom classes marks conjuncts (i + 1) n
 
 -- those from a place on
+abbrev pub afterIn : List ℕ → List ℕ → List ℕ → ℕ → List Item
+afterIn classes marks conjuncts at = itemsFrom classes marks conjuncts at (length classes - at)
+
+-- the same of two columns, where no conjunct is asked for
+abbrev pub itemAt : List ℕ → List ℕ → ℕ → Item
+itemAt classes marks i = itemIn classes marks [] i
+
+abbrev pub beforeOf : List ℕ → List ℕ → ℕ → List Item
+beforeOf classes marks at = beforeIn classes marks [] at
+
 abbrev pub afterOf : List ℕ → List ℕ → ℕ → List Item
-afterOf classes marks at = itemsFrom classes marks at (length classes - at)
+afterOf classes marks at = afterIn classes marks [] at
