@@ -19,7 +19,7 @@ use Rattle.records.proofs.Marks.{fine}
 use Rattle.records.proofs.Tables.{firstOf, by-table}
 use Rattle.records.proofs.Unique.{unique}
 use Rattle.records.proofs.Written as Written
-use Rattle.uax29.specs.Clusters.{is, isNot, among, pictographic, anything, edge, any, one, next, many, pairs, applies, decide, itemAt, beforeOf, itemsFrom, boundaryAt, GB1, GB2, GB3, GB4, GB5, GB6, GB7, GB8, GB9, GB9a, GB9b, GB11, GB12, GB13, GB999}
+use Rattle.uax29.specs.Clusters.{is, isNot, among, pictographic, anything, edge, any, one, next, many, pairs, applies, decide, itemAt, beforeIn, beforeOf, itemsFrom, boundaryAt, GB1, GB2, GB3, GB4, GB5, GB6, GB7, GB8, GB9, GB9a, GB9b, GB11, GB12, GB13, GB999}
 use Rattle.uax29.specs.Graphemes.{startAt, graphemeCheck, graphemeVerdict, graphemeCells}
 use Rattle.uax29.specs.GraphemeStep.{startState, summary, advance, keptRules, near, starts, item, badRecord, badState, stepVerdict, stepUnder, stepOf}
 use Rattle.uax29.specs.GraphemeRefusals.{stepTable}
@@ -63,7 +63,7 @@ grapheme-step-unique s kind marked = unique (stepOf s kind marked)
 
 -- before the first record the state is the start state
 pub begins : (breaks marks : List ℕ) → stateAt breaks marks 0 ≡ startState
-unfolding beforeOf
+unfolding beforeIn
 begins breaks marks = summary-none
 
 step-is : (v : Verdict) (s t : GraphemeState) (kind marked answer : ℕ) → v ≡ Accepted → t ≡ advance s (item kind marked) → answer ≡ cond (starts s (item kind marked)) 1 0
@@ -137,5 +137,5 @@ pub read-texts : (startsOf (EX ∷ ZWJ ∷ XX ∷ []) (1 ∷ 0 ∷ 1 ∷ []) ≡
     × ((startsOf (XX ∷ ZWJ ∷ ZWJ ∷ XX ∷ []) (1 ∷ 1 ∷ 0 ∷ 1 ∷ []) ≡ 1 ∷ 0 ∷ 0 ∷ 0 ∷ [])
     × ((startsOf (CN ∷ ZWJ ∷ XX ∷ []) (1 ∷ 0 ∷ 1 ∷ []) ≡ 1 ∷ 1 ∷ 0 ∷ [])
     × (startsOf (RI ∷ EX ∷ RI ∷ RI ∷ []) (0 ∷ 0 ∷ 0 ∷ 0 ∷ []) ≡ 1 ∷ 0 ∷ 1 ∷ 0 ∷ [])))
-unfolding cells startAt boundaryAt decide applies is isNot among pictographic anything edge any one next many pairs beforeOf itemsFrom GB1 GB2 GB3 GB4 GB5 GB6 GB7 GB8 GB9 GB9a GB9b GB11 GB12 GB13 GB999
+unfolding cells startAt boundaryAt decide applies is isNot among pictographic anything edge any one next many pairs beforeIn itemsFrom GB1 GB2 GB3 GB4 GB5 GB6 GB7 GB8 GB9 GB9a GB9b GB11 GB12 GB13 GB999
 read-texts = (refl, (refl, (refl, refl)))

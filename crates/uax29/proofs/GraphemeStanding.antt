@@ -16,7 +16,7 @@ use Rattle.classes.specs.ClusterBreak.{XX, RI, ZWJ, len}
 use Rattle.records.specs.Text.{cell}
 use Rattle.records.specs.declared.Verdict.the-variants.{Accepted}
 use Rattle.records.proofs.Marks.{fine-class, fine-mark}
-use Rattle.uax29.specs.Clusters.{Item, is, isNot, among, pictographic, anything, edge, any, one, next, many, pairs, applies, decide, beforeOf, GB1, GB2, GB3, GB4, GB5, GB6, GB7, GB8, GB9, GB9a, GB9b, GB11, GB12, GB13, GB999}
+use Rattle.uax29.specs.Clusters.{Item, is, isNot, among, pictographic, anything, edge, any, one, next, many, pairs, applies, decide, beforeIn, beforeOf, GB1, GB2, GB3, GB4, GB5, GB6, GB7, GB8, GB9, GB9a, GB9b, GB11, GB12, GB13, GB999}
 use Rattle.uax29.specs.Graphemes.{startAt, graphemeCheck}
 use Rattle.uax29.specs.GraphemeStep.{noClass, summary, advance, keptRules, near, starts, item, badState}
 use Rattle.uax29.specs.GraphemeRows.{cellOf, answerIn, rowIn}
@@ -128,7 +128,7 @@ pub record Stands (s : GraphemeState) (row : ℕ) : Type 0 where
   pub in-row : row ≡ rowOf s
 
 pub start-stands : (breaks marks : List ℕ) → Stands (stateAt breaks marks 0) 0
-unfolding beforeOf rowOf graphemeGroups
+unfolding beforeIn rowOf graphemeGroups
 start-stands breaks marks = rw summary-none (record { good = refl; in-row = refl })
 
 pub row-small : {s : GraphemeState} {row : ℕ} → Stands s row → row < 32

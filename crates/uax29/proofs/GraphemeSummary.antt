@@ -19,7 +19,7 @@ use Rattle.records.specs.declared.Verdict.{Verdict}
 use Rattle.records.specs.declared.Verdict.the-variants.{Accepted, Refused}
 use Rattle.records.proofs.Marks.{fine-class}
 use Rattle.records.proofs.Written.{ran-refused, ran-whole, ran-checked, ran-long}
-use Rattle.uax29.specs.Clusters.{Item, is, isNot, among, pictographic, anything, edge, any, one, next, many, pairs, applies, decide, itemAt, beforeOf, afterOf, rules, controls, boundaryAt, GB1, GB2, GB3, GB4, GB5, GB6, GB7, GB8, GB9, GB9a, GB9b, GB11, GB12, GB13, GB999}
+use Rattle.uax29.specs.Clusters.{Item, is, isNot, among, pictographic, anything, edge, any, one, next, many, pairs, applies, decide, itemAt, beforeIn, beforeOf, afterOf, rules, controls, boundaryAt, GB1, GB2, GB3, GB4, GB5, GB6, GB7, GB8, GB9, GB9a, GB9b, GB11, GB12, GB13, GB999}
 use Rattle.uax29.specs.Graphemes.{startAt, graphemeCheck, graphemeVerdict, graphemeCells}
 use Rattle.uax29.specs.GraphemeStep.{noClass, classOf, startState, summary, advance, keptRules, near, starts, item, stepVerdict, stepOf}
 use Rattle.uax29.specs.GraphemeKept.{fromGB3, fromGB6, fromGB9, fromGB11}
@@ -66,13 +66,13 @@ abbrev pub stateAt : List ℕ → List ℕ → ℕ → GraphemeState
 stateAt breaks marks i = summary (beforeOf breaks marks i)
 
 pub state-more : (breaks marks : List ℕ) (i : ℕ) → stateAt breaks marks (i + 1) ≡ advance (stateAt breaks marks i) (itemAt breaks marks i)
-unfolding beforeOf
+unfolding beforeIn
 state-more breaks marks i = ap (stateAt breaks marks) (add-one i) ∙ summary-more (itemAt breaks marks i) (beforeOf breaks marks i)
 
 -- an accepted text: its answers are those of the states
 module _ (breaks marks : List ℕ) (accepted : graphemeCheck breaks marks ≡ Accepted) where
   listed : (i : ℕ) → i ≤ length breaks → eqb (classOf (beforeOf breaks marks i)) noClass ≡ edge (beforeOf breaks marks i)
-  unfolding beforeOf edge
+  unfolding beforeIn edge
   listed zero h = refl
   listed (suc i) h = ne-eqb (cell breaks i) noClass (λ e. omega (arith, fine-class _ breaks marks accepted i (omega arith)))
 

@@ -1,3 +1,5 @@
+pub mod Blind
+pub mod Editions
 pub mod ClustersSides
 pub mod GraphemeSummary
 pub mod GraphemeStanding

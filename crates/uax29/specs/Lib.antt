@@ -7,5 +7,7 @@ pub mod GraphemeRefusals
 pub mod GraphemeKept
 pub mod GraphemeRows
 pub mod GraphemeTable
+pub mod Conjunct
+pub mod Editions
 pub mod Words
 pub mod WordsSeen
