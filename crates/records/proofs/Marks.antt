@@ -1,7 +1,7 @@
 -- What it says of the cells of two columns, classes and marks, that their check accepted them, and what makes it accept them.
 -- Assumes nothing.
 use Prim.Native.Nat.{ℕ, _<_, _≤_}
-use mathlib.Core.Path.{_≡_, refl, sym}
+use mathlib.Core.Path.{_≡_, refl, sym, _∙_}
 use mathlib.Core.Bool.{Bool, true, false, not, _||_}
 use mathlib.Core.List.{List, [], _∷_}
 use native.Mathlib.Omega.{arith}
@@ -10,7 +10,7 @@ use lib.ListN.{length}
 use borrow.Author.Tests.{eqb-true, eq-eqb, leb-false, lt-leb, le-ltb}
 use Rattle.basics.proofs.Tests.{neither}
 use Rattle.records.specs.Text.{cell}
-use Rattle.records.specs.Refusals.{refuse, over, most, tooLong, uneven, judgeMarked, judgeLengths, markedVerdict}
+use Rattle.records.specs.Refusals.{refuse, over, most, tooLong, uneven, judgeMarked, judgeThree, judgeLengths, markedVerdict}
 use Rattle.records.specs.declared.Side.the-variants.{Record, Neither}
 use Rattle.records.specs.declared.Verdict.{Verdict}
 use Rattle.records.specs.declared.Verdict.the-variants.{Accepted}
@@ -59,3 +59,14 @@ clean-accepted len classes marks class mark i short e atMost atMostMark all hc h
     let b : cell marks k < 2 = omega (arith, atMostMark k inside) in
     rw (lt-leb _ _ a, lt-leb _ _ b)) in
     rw (e, le-ltb _ _ short, eq-eqb (length classes) (length classes) refl) records
+
+-- three columns of which two and two are accepted
+pub three-accepted : (len otherLen : ℕ) (classes others marks : List ℕ) → markedVerdict len classes marks ≡ Accepted → markedVerdict otherLen others marks ≡ Accepted
+    → Accepted ≡ over (λ i. judgeThree len otherLen (cell classes i) (cell others i) (cell marks i) i) 0 (length classes)
+unfolding judgeThree
+three-accepted len otherLen classes others marks a b =
+    let e : length others ≡ length classes = sym (even otherLen others marks b) ∙ even len classes marks a in
+    sym (each-over _ (length classes) 0 (λ k l h.
+    let one = fine len classes marks a k (omega arith) in
+    let two = fine otherLen others marks b k (omega (arith, e)) in
+    rw (one .0, two .0, one .1)))

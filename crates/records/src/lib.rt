@@ -4,6 +4,7 @@ pub mod cells;
 mod columns;
 mod judge;
 mod sets;
+mod threes;
 
 use classes::word_break;
 use columns::is_clean;
@@ -19,6 +20,9 @@ use sets::judge_all_marked;
 use sets::judge_each;
 use sets::judge_shape;
 use sets::judge_signs;
+pub use threes::is_bad_three;
+pub use threes::judge_codes;
+pub use threes::judge_columns;
 ghost use mathlib.Core.Path.{_≡_};
 ghost use Rattle.records.specs.Text.{textOf, lent};
 ghost use Rattle.records.specs.Refusals.{verdict, markedVerdict, wordVerdict};
