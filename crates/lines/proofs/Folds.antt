@@ -13,7 +13,7 @@ use Rattle.basics.proofs.Columns.{written-cell, kept-cell}
 use Rattle.basics.proofs.Tests.{by-test, neither}
 use Rattle.classes.specs.WordBreak as WordBreak
 use Rattle.records.specs.Text.{cell}
-use Rattle.records.specs.Refusals.{refuse, outside, coded, mark}
+use Rattle.records.specs.Refusals.{refuse, outside, coded, mark, judgeThree}
 use Rattle.records.proofs.Unique.{unique}
 use Rattle.records.proofs.Verdicts.{never, unrefused, passes, over-each}
 use Rattle.records.specs.declared.Side.the-variants.{Record, Neither}
@@ -61,7 +61,7 @@ module _ (table lines words pictographs : List ℕ) (accepted : checkVerdict tab
   good-table = check-passes table lines words pictographs accepted .1 .0
 
   class-listed : (i : ℕ) → i < length lines → leb LineBreak.len (cell lines i) ≡ false
-  unfolding judgeRecord
+  unfolding judgeThree
   class-listed i h =
       let one : judgeRecord (cell lines i) (cell words i) (cell pictographs i) i ≡ Accepted =
       over-each (λ k. judgeRecord (cell lines k) (cell words k) (cell pictographs k) k) (length lines) 0 (check-passes table lines words pictographs accepted .1 .1) i (omega arith) (omega arith) in

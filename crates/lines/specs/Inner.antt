@@ -1,12 +1,9 @@
 -- What only private contracts need: line answers laid over cells that hold word answers, and the greater of two numbers.
 use Prim.Native.Nat.{ℕ}
-use mathlib.Core.Bool.{Bool, cond, _||_}
+use mathlib.Core.Bool.{cond}
 use mathlib.Core.List.{List}
-use lib.Dec.{eqb, leb, ltb}
-use Rattle.basics.specs.Sets.{any}
-use Rattle.classes.specs.WordBreak as WordBreak
+use lib.Dec.{eqb, ltb}
 use Rattle.records.specs.Text.{cell}
-use Rattle.lines.specs.LineBreak as LineBreak
 use Rattle.lines.specs.Rules.{boundaryCode}
 use Rattle.lines.specs.Run.{lineAt}
 use Rattle.lines.specs.declared.Strength.{Strength}
@@ -18,11 +15,6 @@ merged line word = cond (eqb line 0) word line
 -- what is laid over the cell at an index of a column
 unfoldable pub laidAt : Strength → List ℕ → List ℕ → List ℕ → ℕ → ℕ
 laidAt strength table lines out i = merged (boundaryCode (lineAt strength table lines i)) (cell out i)
-
--- whether a code of a column is outside its list
-abbrev pub unlisted : List ℕ → List ℕ → List ℕ → Bool
-unlisted lines words pictographs =
-    any (λ v. leb LineBreak.len v) lines || (any (λ v. leb WordBreak.len v) words || any (λ v. leb 2 v) pictographs)
 
 abbrev pub larger : ℕ → ℕ → ℕ
 larger a b = cond (ltb a b) b a

@@ -6,8 +6,8 @@ use lib.ListN.{length, drop}
 use Rattle.basics.specs.Columns.{cells}
 use Rattle.classes.specs.WordBreak as WordBreak
 use Rattle.records.specs.Text.{cell}
-use Rattle.records.specs.Refusals.{refuse, _⊳_, over, coded, mark, outside, judgeLengths}
-use Rattle.records.specs.declared.Side.the-variants.{Record, Neither}
+use Rattle.records.specs.Refusals.{refuse, _⊳_, over, judgeThree, judgeLengths}
+use Rattle.records.specs.declared.Side.the-variants.{Neither}
 use Rattle.records.specs.declared.Verdict.{Verdict}
 use Rattle.records.specs.declared.Verdict.the-variants.{Accepted, Refused}
 use Rattle.words.specs.Run as Words
@@ -40,9 +40,8 @@ abbrev pub answers : Strength → List ℕ → List ℕ → List ℕ → List �
 answers strength table lines words pictographs = cells (answerAt strength table lines words pictographs)
 
 -- 4, of any of the three codes
-unfoldable pub judgeRecord : ℕ → ℕ → ℕ → ℕ → Verdict
-judgeRecord line word pictograph i =
-    refuse (outside (coded line LineBreak.len ∷ coded word WordBreak.len ∷ mark pictograph ∷ [])) 4 Record i
+abbrev pub judgeRecord : ℕ → ℕ → ℕ → ℕ → Verdict
+judgeRecord line word pictograph i = judgeThree LineBreak.len WordBreak.len line word pictograph i
 
 -- 1 and 2 over the three columns, then 10, then 4 by rising index
 unfoldable pub checkVerdict : List ℕ → List ℕ → List ℕ → List ℕ → Verdict

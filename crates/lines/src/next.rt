@@ -2,8 +2,10 @@
 use crate::Boundary;
 use crate::BoundaryState;
 use crate::judge::judge_step;
-use crate::runs::is_bad_record;
+use crate::line_break;
+use classes::word_break;
 use records::Verdict;
+use records::is_bad_three;
 use words::Next;
 ghost use mathlib.Core.Path.{_≡_};
 ghost use Rattle.lines.specs.Rules.{orWord};
@@ -13,7 +15,7 @@ ghost use Rattle.lines.specs.NextStep.{badRecord, badStates, nextVerdict
 fn is_bad_step(line: u8, word: u8, pictograph: u8, next: Next) -> bool
     ensures { λ r. ⌜ r ≡ badRecord line word pictograph next ⌝ }
 {
-    if is_bad_record(line, word, pictograph) {
+    if is_bad_three(line_break::LEN, word_break::LEN, line, word, pictograph) {
         return true;
     }
     next.is_outside()

@@ -3,96 +3,20 @@ use crate::LineState;
 use crate::Strength;
 use crate::judge::is_bad_table;
 use crate::line_break;
-use crate::sweeps::any_from;
 use classes::word_break;
-use records::MOST;
 use records::Side;
 use records::Verdict;
-use records::cells::any_above;
 use records::cells::cell8;
-use records::cells::uneven;
-use records::is_outside;
+use records::judge_codes;
+use records::judge_columns;
 use records::refused;
 ghost use mathlib.Core.Path.{_≡_};
-ghost use mathlib.Core.List.{[], _∷_, _++_};
+ghost use mathlib.Core.List.{_++_};
 ghost use Prim.Native.Nat.{_≤_};
 ghost use lib.ListN.{length, drop};
 ghost use Rattle.basics.specs.Columns.{cells};
-ghost use Rattle.records.specs.Text.{cell};
-ghost use Rattle.records.specs.Refusals.{over, outside, coded, mark, judgeLengths};
-ghost use Rattle.classes.specs.WordBreak as WordBreak;
-ghost use Rattle.lines.specs.LineBreak as LineBreak;
-ghost use Rattle.lines.specs.Run.{judgeRecord, checkVerdict};
-ghost use Rattle.lines.specs.Inner.{merged, laidAt, unlisted};
-
-// 1 and 2.
-fn judge_columns(lines: usize, words: usize, pictographs: usize) -> Verdict
-    ensures { λ r. ⌜ r ≡ judgeLengths (lines ∷ words ∷ pictographs ∷ []) [] ⌝ }
-{
-    let lengths = [lines, words, pictographs];
-    if any_above(&lengths, MOST) {
-        return refused(1, Side::Neither, 0);
-    }
-    if uneven(&lengths) {
-        return refused(2, Side::Neither, 0);
-    }
-    Verdict::Accepted
-}
-
-pub(crate) fn is_bad_record(line: u8, word: u8, pictograph: u8) -> bool
-    ensures { λ r. ⌜ r ≡ outside (coded line LineBreak.len ∷ coded word WordBreak.len ∷ mark pictograph ∷ []) ⌝ }
-{
-    if is_outside(line, line_break::LEN) {
-        return true;
-    }
-    if is_outside(word, word_break::LEN) {
-        return true;
-    }
-    is_outside(pictograph, 2)
-}
-
-// 4, of the record at an index.
-fn judge_record(line: u8, word: u8, pictograph: u8, i: usize) -> Verdict
-    ensures { λ r. ⌜ r ≡ judgeRecord line word pictograph i ⌝ }
-{
-    if is_bad_record(line, word, pictograph) {
-        return refused(4, Side::Record, i);
-    }
-    Verdict::Accepted
-}
-
-fn judge_record_at(lines: &[u8], words: &[u8], pictographs: &[u8], i: usize) -> Verdict
-    ensures { λ r. ⌜ r ≡ judgeRecord (cell (now (lines .entry)) i) (cell (now (words .entry)) i) (cell (now (pictographs .entry)) i) i ⌝ }
-{
-    judge_record(cell8(lines, i), cell8(words, i), cell8(pictographs, i), i)
-}
-
-fn judge_records(lines: &[u8], words: &[u8], pictographs: &[u8]) -> Verdict
-    ensures { λ r. ⌜ r ≡ over (λ i. judgeRecord (cell (now (lines .entry)) i) (cell (now (words .entry)) i) (cell (now (pictographs .entry)) i) i) 0 (length (now (lines .entry))) ⌝ }
-{
-    let mut i: usize = 0;
-    while i < lines.len() {
-        let v = judge_record_at(lines, words, pictographs, i);
-        let Verdict::Accepted = v else {
-            return v;
-        };
-        i += 1;
-    }
-    Verdict::Accepted
-}
-
-// Whether a code is outside its list. Where none is, no record has to be judged by itself.
-fn is_unlisted(lines: &[u8], words: &[u8], pictographs: &[u8]) -> bool
-    ensures { λ r. ⌜ r ≡ unlisted (now (lines .entry)) (now (words .entry)) (now (pictographs .entry)) ⌝ }
-{
-    if any_from(lines, line_break::LEN) {
-        return true;
-    }
-    if any_from(words, word_break::LEN) {
-        return true;
-    }
-    any_from(pictographs, 2)
-}
+ghost use Rattle.lines.specs.Run.{checkVerdict};
+ghost use Rattle.lines.specs.Inner.{merged, laidAt};
 
 pub(crate) fn check(table: &[u8], lines: &[u8], words: &[u8], pictographs: &[u8]) -> Verdict
     ensures { λ r. ⌜ r ≡ checkVerdict (now (table .entry)) (now (lines .entry)) (now (words .entry)) (now (pictographs .entry)) ⌝ }
@@ -104,10 +28,7 @@ pub(crate) fn check(table: &[u8], lines: &[u8], words: &[u8], pictographs: &[u8]
     if is_bad_table(table) {
         return refused(10, Side::Neither, 0);
     }
-    if is_unlisted(lines, words, pictographs) {
-        return judge_records(lines, words, pictographs);
-    }
-    Verdict::Accepted
+    judge_codes(line_break::LEN, word_break::LEN, lines, words, pictographs)
 }
 
 fn merge(line: u8, word: u8) -> u8

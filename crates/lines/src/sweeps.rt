@@ -18,20 +18,6 @@ fn reaches(most: u8, limit: usize) -> bool
     limit <= most as usize
 }
 
-// Whether a code is at or above the limit.
-pub(crate) fn any_from(column: &[u8], limit: u8) -> bool
-    requires { ⌜ 0 < limit ⌝ }
-    ensures { λ r. ⌜ r ≡ any (λ v. leb limit v) (now (column .entry)) ⌝ }
-{
-    let mut most: u8 = 0;
-    let mut i: usize = 0;
-    while i < column.len() {
-        most = larger(most, column[i]);
-        i += 1;
-    }
-    reaches(most, limit as usize)
-}
-
 // Whether a cell names a row that the table has not.
 pub(crate) fn names_no_row(table: &[u8], rows: usize) -> bool
     requires { ⌜ 0 < rows ⌝ }

@@ -3,8 +3,8 @@ use borrow.Author.Needs.{needs}
 use Rattle.lines.proofs.next.is_bad_step.Statement.{statement}
 use Rattle.lines.proofs.next.is_bad_step.Tie as tie
 
-is-bad-record-requires : tie.Need-is-bad-record-requires
-is-bad-record-requires c κs = search needs
+is-bad-three-requires : tie.Need-is-bad-three-requires
+is-bad-three-requires c κs = search needs
 
 returns : tie.Need-returns
 returns c = search (of-three, of-fourth)
@@ -17,4 +17,4 @@ returns-2 c = search of-fourth
 
 pub is-bad-step-spec : {M : Type 1} → statement M
 is-bad-step-spec =
-    tie.close (tie.spec is-bad-record-requires returns is-outside-requires returns-2)
+    tie.close (tie.spec is-bad-three-requires returns is-outside-requires returns-2)

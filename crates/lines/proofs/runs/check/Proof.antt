@@ -1,4 +1,4 @@
-use Rattle.lines.proofs.RunLaws.{check-shape, check-table, check-records, check-listed}
+use Rattle.lines.proofs.RunLaws.{check-shape, check-table, check-records}
 use borrow.Author.Needs.{needs}
 use Rattle.lines.proofs.runs.check.Statement.{statement}
 use Rattle.lines.proofs.runs.check.Tie as tie
@@ -24,17 +24,11 @@ refused-requires c κs = search needs
 returns-2 : tie.Need-returns-2
 returns-2 c = search check-table
 
-is-unlisted-requires : tie.Need-is-unlisted-requires
-is-unlisted-requires c κs = search needs
-
-judge-records-requires : tie.Need-judge-records-requires
-judge-records-requires c κs = search needs
+judge-codes-requires : tie.Need-judge-codes-requires
+judge-codes-requires c κs = search needs
 
 returns-3 : tie.Need-returns-3
 returns-3 c = search check-records
-
-returns-4 : tie.Need-returns-4
-returns-4 c = search check-listed
 
 pub check-spec : {M : Type 1} → statement M
 check-spec =
@@ -47,7 +41,5 @@ check-spec =
     is-bad-table-requires
     refused-requires
     returns-2
-    is-unlisted-requires
-    judge-records-requires
-    returns-3
-    returns-4)
+    judge-codes-requires
+    returns-3)
