@@ -1,9 +1,10 @@
 pub mod Blind
-pub mod Editions
+pub mod EditionRules
 pub mod ClustersSides
 pub mod GraphemeSummary
 pub mod GraphemeStanding
 pub mod GraphemeLaws
+pub mod Links
 pub mod Pairs
 pub mod WordsChain
 pub mod WordsRules

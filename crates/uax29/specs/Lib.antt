@@ -9,5 +9,8 @@ pub mod GraphemeRows
 pub mod GraphemeTable
 pub mod Conjunct
 pub mod Editions
+pub mod EditionRuns
+pub mod EditionStep
+pub mod Conjoined
 pub mod Words
 pub mod WordsSeen

@@ -77,7 +77,7 @@ fn is_above(class: u8, most: u8) -> bool
 }
 
 // Whether a number has this value where a flag of the state holds: GB11, GB12 and GB13.
-fn is_met(flag: bool, x: u8, value: u8) -> bool
+pub(crate) fn is_met(flag: bool, x: u8, value: u8) -> bool
     ensures { λ r. ⌜ r ≡ (flag && eqb x value) ⌝ }
 {
     if flag {
@@ -98,7 +98,7 @@ fn is_misplaced(flag: bool, class: u8, place: u8) -> bool
 
 impl GraphemeState {
     // Whether no text leads to the state: the step refuses it.
-    fn is_bad(self) -> bool
+    pub(crate) fn is_bad(self) -> bool
         ensures { λ r. ⌜ r ≡ badState self ⌝ }
     {
         if is_above(self.previous, LEN) {
