@@ -24,7 +24,8 @@ use Rattle.lines.specs.Refusals.{badTable}
 use Rattle.lines.specs.Run.{answers, judgeRecord, checkVerdict, runVerdict, runCells}
 use Rattle.lines.specs.Inner.{laidAt}
 use Rattle.lines.specs.declared.Strength.{Strength}
-use Rattle.records.proofs.Verdicts.{unrefused, passes, over-each, each-over}
+use Rattle.records.proofs.Marks.{second-is, three-second}
+use Rattle.records.proofs.Verdicts.{unrefused, passes}
 use Rattle.lines.proofs.Turns.{merged-all}
 
 -- the check, where v is what was said of the lengths
@@ -43,40 +44,6 @@ module _ (table lines words pictographs : List ℕ) (v : Verdict) (e : v ≡ jud
 
 -- # What acceptance gives
 
-word-less : (line word pictograph i : ℕ) → judgeRecord line word pictograph i ≡ Accepted → judgeMarked WordBreak.len word pictograph i ≡ Accepted
-unfolding judgeThree judgeMarked
-word-less line word pictograph i h =
-    let o : outside (coded word WordBreak.len ∷ mark pictograph ∷ []) ≡ false =
-    neither (leb LineBreak.len line) (outside (coded word WordBreak.len ∷ mark pictograph ∷ [])) (unrefused _ 4 Record i h) .1 in
-    rw o
-
-not-off : (b : Bool) → not b ≡ false → b ≡ true
-not-off true h = refl
-not-off false h = absurd (let z : _≡_ {A = ℕ} 0 1 = cc in omega arith)
-
--- three lengths that pass: they are one, and so two of them pass
-module _ (a b c : ℕ) (h : judgeLengths (a ∷ b ∷ c ∷ []) [] ≡ Accepted) where
-  short : tooLong (a ∷ b ∷ c ∷ []) ≡ false
-  unfolding judgeLengths
-  short = neither (tooLong (a ∷ b ∷ c ∷ [])) false (unrefused (tooLong (a ∷ b ∷ c ∷ []) || false) 1 Neither 0 (passes (refuse (tooLong (a ∷ b ∷ c ∷ []) || false) 1 Neither 0) (refuse (uneven (a ∷ b ∷ c ∷ []) || false) 2 Neither 0) h .0)) .0
-
-  even : uneven (a ∷ b ∷ c ∷ []) ≡ false
-  unfolding judgeLengths
-  even = neither (uneven (a ∷ b ∷ c ∷ [])) false (unrefused (uneven (a ∷ b ∷ c ∷ []) || false) 2 Neither 0 (passes (refuse (tooLong (a ∷ b ∷ c ∷ []) || false) 1 Neither 0) (refuse (uneven (a ∷ b ∷ c ∷ []) || false) 2 Neither 0) h .1)) .0
-
-  second : b ≡ a
-  second = eqb-true b a (not-off (eqb b a) (neither (not (eqb b a)) (not (eqb c a) || false) (neither (not (eqb a a)) (not (eqb b a) || (not (eqb c a) || false)) even .1) .0))
-
-  third : c ≡ a
-  third = eqb-true c a (not-off (eqb c a) (neither (not (eqb c a)) false (neither (not (eqb b a)) (not (eqb c a) || false) (neither (not (eqb a a)) (not (eqb b a) || (not (eqb c a) || false)) even .1) .1) .0))
-
-  two-pass : judgeLengths (b ∷ c ∷ []) [] ≡ Accepted
-  unfolding judgeLengths
-  two-pass =
-      let s : tooLong (b ∷ c ∷ []) ≡ false = neither (ltb most a) (tooLong (b ∷ c ∷ [])) short .1 in
-      let f : c ≡ b = third ∙ sym second in
-      rw (s, eq-eqb b b refl, eq-eqb c b f)
-
 -- what the line run accepts, the word run accepts
 module _ (table lines words pictographs : List ℕ) (accepted : checkVerdict table lines words pictographs ≡ Accepted) where
   pub check-passes : (judgeLengths (length lines ∷ length words ∷ length pictographs ∷ []) [] ≡ Accepted) × ((badTable table ≡ false) × (over (λ i. judgeRecord (cell lines i) (cell words i) (cell pictographs i) i) 0 (length lines) ≡ Accepted))
@@ -87,14 +54,10 @@ module _ (table lines words pictographs : List ℕ) (accepted : checkVerdict tab
       (p .0, (unrefused _ 10 Neither 0 (q .0), q .1))
 
   pub one-length : length words ≡ length lines
-  one-length = second (length lines) (length words) (length pictographs) (check-passes .0)
+  one-length = second-is (length lines) (length words) (length pictographs) (check-passes .0)
 
   pub words-accepted : wordVerdict words pictographs ≡ Accepted
-  unfolding markedVerdict
-  words-accepted =
-      let o = each-over (λ i. judgeMarked WordBreak.len (cell words i) (cell pictographs i) i) (length lines) 0
-      (λ k l h. word-less (cell lines k) (cell words k) (cell pictographs k) k (over-each (λ i. judgeRecord (cell lines i) (cell words i) (cell pictographs i) i) (length lines) 0 (check-passes .1 .1) k l h)) in
-      rw (two-pass (length lines) (length words) (length pictographs) (check-passes .0), one-length) o
+  words-accepted = three-second LineBreak.len WordBreak.len lines words pictographs (check-passes .0) (check-passes .1 .1)
 
 -- # The run, where v is what the check said
 

@@ -5,7 +5,7 @@ use mathlib.Core.Path.{_≡_, refl, sym, _∙_}
 use mathlib.Core.Bool.{Bool, true, false, not, _||_}
 use mathlib.Core.List.{List, [], _∷_}
 use native.Mathlib.Omega.{arith}
-use lib.Dec.{eqb, leb}
+use lib.Dec.{eqb, leb, ltb}
 use lib.ListN.{length}
 use borrow.Author.Tests.{eqb-true, eq-eqb, leb-false, lt-leb, le-ltb}
 use Rattle.basics.proofs.Tests.{neither}
@@ -70,3 +70,51 @@ three-accepted len otherLen classes others marks a b =
     let one = fine len classes marks a k (omega arith) in
     let two = fine otherLen others marks b k (omega (arith, e)) in
     rw (one .0, two .0, one .1)))
+
+-- three lengths that pass: they are one, and so any two of them pass
+module _ (a b c : ℕ) (h : judgeLengths (a ∷ b ∷ c ∷ []) [] ≡ Accepted) where
+  short : tooLong (a ∷ b ∷ c ∷ []) ≡ false
+  unfolding judgeLengths
+  short = neither (tooLong (a ∷ b ∷ c ∷ [])) false (unrefused (tooLong (a ∷ b ∷ c ∷ []) || false) 1 Neither 0 (passes (refuse (tooLong (a ∷ b ∷ c ∷ []) || false) 1 Neither 0) (refuse (uneven (a ∷ b ∷ c ∷ []) || false) 2 Neither 0) h .0)) .0
+
+  level : uneven (a ∷ b ∷ c ∷ []) ≡ false
+  unfolding judgeLengths
+  level = neither (uneven (a ∷ b ∷ c ∷ [])) false (unrefused (uneven (a ∷ b ∷ c ∷ []) || false) 2 Neither 0 (passes (refuse (tooLong (a ∷ b ∷ c ∷ []) || false) 1 Neither 0) (refuse (uneven (a ∷ b ∷ c ∷ []) || false) 2 Neither 0) h .1)) .0
+
+  pub second-is : b ≡ a
+  second-is = eqb-true b a (not-off (eqb b a) (neither (not (eqb b a)) (not (eqb c a) || false) (neither (not (eqb a a)) (not (eqb b a) || (not (eqb c a) || false)) level .1) .0))
+
+  third-is : c ≡ a
+  third-is = eqb-true c a (not-off (eqb c a) (neither (not (eqb c a)) false (neither (not (eqb b a)) (not (eqb c a) || false) (neither (not (eqb a a)) (not (eqb b a) || (not (eqb c a) || false)) level .1) .1) .0))
+
+  two-pass : (n : ℕ) → n ≡ a → judgeLengths (n ∷ c ∷ []) [] ≡ Accepted
+  unfolding judgeLengths
+  two-pass n e =
+      let s : ltb most a ≡ false = neither (ltb most a) (tooLong (b ∷ c ∷ [])) short .0 in
+      rw (e, third-is, s, eq-eqb a a refl)
+
+-- what the check of three columns accepts, that of two of them accepts
+module _ (len otherLen : ℕ) (classes others marks : List ℕ) (shape : judgeLengths (length classes ∷ length others ∷ length marks ∷ []) [] ≡ Accepted)
+    (codes : over (λ i. judgeThree len otherLen (cell classes i) (cell others i) (cell marks i) i) 0 (length classes) ≡ Accepted) where
+  listed : (k : ℕ) → k < length classes → (leb len (cell classes k) ≡ false) × ((leb otherLen (cell others k) ≡ false) × (leb 2 (cell marks k) ≡ false))
+  unfolding judgeThree
+  listed k h =
+      let one = over-each (λ i. judgeThree len otherLen (cell classes i) (cell others i) (cell marks i) i) (length classes) 0 codes k (omega arith) (omega arith) in
+      let p = neither (leb len (cell classes k)) (leb otherLen (cell others k) || (leb 2 (cell marks k) || false)) (unrefused _ 4 Record k one) in
+      let q = neither (leb otherLen (cell others k)) (leb 2 (cell marks k) || false) (p .1) in
+      (p .0, (q .0, neither (leb 2 (cell marks k)) false (q .1) .0))
+
+  pub three-first : markedVerdict len classes marks ≡ Accepted
+  unfolding markedVerdict judgeMarked
+  three-first =
+      let all = each-over (λ i. judgeMarked len (cell classes i) (cell marks i) i) (length classes) 0
+      (λ k l h. let e = listed k (omega arith) in rw (e .0, e .1 .1)) in
+      rw (two-pass (length classes) (length others) (length marks) shape (length classes) refl) all
+
+  pub three-second : markedVerdict otherLen others marks ≡ Accepted
+  unfolding markedVerdict judgeMarked
+  three-second =
+      let n = second-is (length classes) (length others) (length marks) shape in
+      let all = each-over (λ i. judgeMarked otherLen (cell others i) (cell marks i) i) (length others) 0
+      (λ k l h. let e = listed k (omega (arith, n)) in rw (e .1 .0, e .1 .1)) in
+      rw (two-pass (length classes) (length others) (length marks) shape (length others) n) all

@@ -1,17 +1,21 @@
 -- GB9c over the columns: what the code's tests of conjunct codes say, by looking back and going forward. Assumes nothing.
 use Prim.Native.Nat.{ℕ, zero, suc, _+_, _-_, _<_, _≤_}
 use mathlib.Core.Path.{_≡_, refl, sym, _∙_, ap}
-use mathlib.Core.Bool.{Bool, true, false, cond, not, _&&_, _||_, or-false, false≢true}
+use mathlib.Core.Bool.{Bool, true, false, cond, not, _&&_, _||_, or-false, and-false, and-true, false≢true}
 use mathlib.Core.List.{List}
 use native.Mathlib.Numerals.{add-one}
 use native.Mathlib.Omega.{arith}
 use lib.Dec.{eqb}
+use lib.ListN.{length, set, getD}
 use borrow.Author.Tests.{eq-eqb, ne-eqb}
-use Rattle.basics.proofs.Tests.{by-test}
+use Rattle.basics.proofs.Columns.{Written, unwritten, written-more}
+use Rattle.basics.specs.Sets.{member}
 use Rattle.records.specs.Text.{cell}
 use Rattle.uax29.specs.Conjunct.{Consonant, Linker, Extend}
-use Rattle.uax29.specs.Conjoined.{begunAt, linkedAt}
-use Rattle.uax29.specs.EditionStep.{noLink, linkAfter}
+use Rattle.uax29.specs.Editions.{joiners}
+use Rattle.uax29.specs.Conjoined.{begunAt, linkedAt, conjoins, conjoinedAt, takenAt}
+use Rattle.uax29.specs.EditionStep.{noLink, linkAfter, badLink}
+use Rattle.uax29.specs.GraphemeStep.{noClass}
 use Rattle.uax29.specs.declared.conjoined.Link.{Link}
 
 -- a linker is of no use without a consonant before it
@@ -21,7 +25,7 @@ linked-begun conjuncts zero h = absurd (false≢true h)
 linked-begun conjuncts (suc i) h =
     go (eqb (cell conjuncts i) Consonant) (eqb (cell conjuncts i) Extend) (eqb (cell conjuncts i) Linker) (begunAt conjuncts i) (linkedAt conjuncts i) (linked-begun conjuncts i) h
   where
-    go : (c e l b k : Bool) → (k ≡ true → b ≡ true) → ((l && b) || ((e || l) && k)) ≡ true → (c || ((e || l) && b)) ≡ true
+    go : (c e l b k : Bool) → (k ≡ true → b ≡ true) → ((l && b) || ((e || (l || false)) && k)) ≡ true → (c || ((e || (l || false)) && b)) ≡ true
     go true e l b k f g = refl
     go false true l true k f g = refl
     go false true true false k f g = f g
@@ -42,21 +46,21 @@ module _ (conjuncts : List ℕ) (at i : ℕ) (h : 0 < i) (v : ℕ) (e : v ≡ ce
   one-back = omega arith
 
   module _ (inv : begunAt conjuncts at ≡ begunAt conjuncts i) where
-    begun-is : begunAt conjuncts at ≡ (eqb v Consonant || ((eqb v Extend || eqb v Linker) && begunAt conjuncts (i - 1)))
+    begun-is : begunAt conjuncts at ≡ (eqb v Consonant || (member joiners v && begunAt conjuncts (i - 1)))
     unfolding begunAt
     begun-is = inv ∙ ap (begunAt conjuncts) one-back ∙ rw (← e)
 
     pub begun-here : v ≡ Consonant → true ≡ begunAt conjuncts at
     begun-here k = sym (begun-is ∙ rw (eq-eqb v Consonant k))
 
-    pub begun-parted : (j : Bool) → (v ≡ Consonant → ⊥) → j ≡ (eqb v Extend || eqb v Linker) → j ≡ false → false ≡ begunAt conjuncts at
+    pub begun-parted : (j : Bool) → (v ≡ Consonant → ⊥) → j ≡ member joiners v → j ≡ false → false ≡ begunAt conjuncts at
     begun-parted j n k l = sym (begun-is ∙ rw (ne-eqb v Consonant n, ← k, l))
 
-    pub begun-on : (j : Bool) → (v ≡ Consonant → ⊥) → j ≡ (eqb v Extend || eqb v Linker) → j ≡ true → begunAt conjuncts at ≡ begunAt conjuncts (i - 1)
+    pub begun-on : (j : Bool) → (v ≡ Consonant → ⊥) → j ≡ member joiners v → j ≡ true → begunAt conjuncts at ≡ begunAt conjuncts (i - 1)
     begun-on j n k l = begun-is ∙ rw (ne-eqb v Consonant n, ← k, l)
 
   module _ (inv : linkedAt conjuncts at ≡ linkedAt conjuncts i) where
-    linked-is : linkedAt conjuncts at ≡ ((eqb v Linker && begunAt conjuncts (i - 1)) || ((eqb v Extend || eqb v Linker) && linkedAt conjuncts (i - 1)))
+    linked-is : linkedAt conjuncts at ≡ ((eqb v Linker && begunAt conjuncts (i - 1)) || (member joiners v && linkedAt conjuncts (i - 1)))
     unfolding linkedAt
     linked-is = inv ∙ ap (linkedAt conjuncts) one-back ∙ rw (← e)
 
@@ -92,3 +96,36 @@ link-none conjuncts = refl
 pub link-more : (conjuncts : List ℕ) (i v : ℕ) (s q : Link) → s ≡ linkAt conjuncts i → v ≡ cell conjuncts i → q ≡ linkAfter s v → q ≡ linkAt conjuncts (i + 1)
 unfolding begunAt linkedAt linkAfter
 link-more conjuncts i v s q e f g = g ∙ rw (e, f) (ap (linkAt conjuncts) (sym (add-one i)))
+
+-- what the code answers of a link, arm by arm
+module _ (l : Link) (v : ℕ) where
+  pub link-consonant : v ≡ Consonant → record { begun = true; linked = false } ≡ linkAfter l v
+  unfolding linkAfter
+  link-consonant e = rw e
+
+  pub link-linker : (r : Bool) → v ≡ Linker → r ≡ (l .begun || l .linked) → record { begun = l .begun; linked = r } ≡ linkAfter l v
+  unfolding linkAfter
+  link-linker r e f = rw (e, f)
+
+  pub link-extend : v ≡ Extend → l ≡ linkAfter l v
+  unfolding linkAfter
+  link-extend e = rw e
+
+  pub link-other : (v ≡ Consonant → ⊥) → (v ≡ Linker → ⊥) → (v ≡ Extend → ⊥) → noLink ≡ linkAfter l v
+  unfolding linkAfter
+  link-other a b c = rw (ne-eqb v Consonant a, ne-eqb v Linker b, ne-eqb v Extend c)
+
+  pub bad-begun : (r : Bool) → l .begun ≡ true → r ≡ eqb v noClass → r ≡ badLink l v
+  bad-begun r e f = rw e (f ∙ sym (ap (λ x. x || eqb v noClass) (and-false (l .linked))))
+
+  pub bad-other : l .begun ≡ false → l .linked ≡ badLink l v
+  bad-other e = rw e (sym (or-false (l .linked && true) ∙ and-true (l .linked)))
+
+-- one turn of the pass that takes starts away
+module _ (breaks conjuncts out₀ : List ℕ) (i : ℕ) (link : Link) (e : link ≡ linkAt conjuncts i) (v : ℕ) (f : v ≡ cell conjuncts i) where
+  pub turn-taken : (a : ℕ) (j : Bool) (q : ℕ) (out : List ℕ) → a ≡ cell breaks (i - 1) → j ≡ conjoins (link .linked) v a (getD breaks i 0) → q ≡ cond j 0 (getD out i 0)
+      → i < length out₀ → Written (takenAt breaks conjuncts out₀) out₀ i out → Written (takenAt breaks conjuncts out₀) out₀ (i + 1) (set out i q)
+  turn-taken a j q out ea ej eq h w =
+      let k : q ≡ takenAt breaks conjuncts out₀ i =
+      unfold takenAt conjoinedAt in eq ∙ rw (ej, ea, e, f, unwritten (takenAt breaks conjuncts out₀) out₀ out i h w) in
+      rw k (written-more (takenAt breaks conjuncts out₀) out₀ out i h w)

@@ -6,18 +6,19 @@ use lib.Dec.{eqb}
 use Rattle.basics.specs.Sets.{member}
 use Rattle.records.specs.Text.{cell}
 use Rattle.uax29.specs.Clusters.{controls}
-use Rattle.uax29.specs.Conjunct.{Consonant, Linker, Extend}
+use Rattle.uax29.specs.Conjunct.{Consonant, Linker}
+use Rattle.uax29.specs.Editions.{joiners}
 
 -- a consonant, then extenders and linkers
 unfoldable pub begunAt : List ℕ → ℕ → Bool
 begunAt conjuncts zero = false
-begunAt conjuncts (suc i) = let c = cell conjuncts i in eqb c Consonant || ((eqb c Extend || eqb c Linker) && begunAt conjuncts i)
+begunAt conjuncts (suc i) = let c = cell conjuncts i in eqb c Consonant || (member joiners c && begunAt conjuncts i)
 
 -- and a linker among them
 unfoldable pub linkedAt : List ℕ → ℕ → Bool
 linkedAt conjuncts zero = false
 linkedAt conjuncts (suc i) =
-    let c = cell conjuncts i in (eqb c Linker && begunAt conjuncts i) || ((eqb c Extend || eqb c Linker) && linkedAt conjuncts i)
+    let c = cell conjuncts i in (eqb c Linker && begunAt conjuncts i) || (member joiners c && linkedAt conjuncts i)
 
 -- of classes a and b on the two sides
 unfoldable pub conjoins : Bool → ℕ → ℕ → ℕ → Bool

@@ -3,15 +3,16 @@ use Prim.Native.Nat.{ℕ}
 use mathlib.Core.Bool.{Bool, false, cond, not, _&&_, _||_}
 use mathlib.Core.List.{List, [], _∷_}
 use lib.Dec.{eqb}
+use Rattle.basics.specs.Sets.{member}
 use Rattle.classes.specs.ClusterBreak as ClusterBreak
 use Rattle.records.specs.Refusals.{refuse, _⊳_, coded, mark, outside}
 use Rattle.records.specs.declared.Side.the-variants.{Record, Neither}
 use Rattle.records.specs.declared.Verdict.{Verdict}
 use Rattle.records.specs.declared.Verdict.the-variants.{Accepted, Refused}
-use Rattle.uax29.specs.Conjunct.{Consonant, Linker, Extend}
+use Rattle.uax29.specs.Conjunct.{Consonant, Linker}
 use Rattle.uax29.specs.Conjunct as Conjunct
 use Rattle.uax29.specs.Clusters.{Item, Rule, _⨯_, decide, GB1, GB2, GB3, GB4, GB5, GB6, GB7, GB8, GB9, GB9a, GB9b, GB11, GB12, GB999}
-use Rattle.uax29.specs.Editions.{begun, GB9c}
+use Rattle.uax29.specs.Editions.{joiners, begun, GB9c}
 use Rattle.uax29.specs.EditionRuns.{unknown}
 use Rattle.uax29.specs.GraphemeStep as Graphemes
 use Rattle.uax29.specs.GraphemeStep.{noClass, summary, advance, keptRules, near}
@@ -35,8 +36,8 @@ summaryIn before = record { graphemes = summary before; link = record { begun = 
 unfoldable pub linkAfter : Link → ℕ → Link
 linkAfter l conjunct =
     record {
-      begun = eqb conjunct Consonant || ((eqb conjunct Extend || eqb conjunct Linker) && l .begun);
-      linked = (eqb conjunct Linker && l .begun) || ((eqb conjunct Extend || eqb conjunct Linker) && l .linked);
+      begun = eqb conjunct Consonant || (member joiners conjunct && l .begun);
+      linked = (eqb conjunct Linker && l .begun) || (member joiners conjunct && l .linked);
     }
 
 unfoldable pub advanceIn : EditionState → Item → EditionState

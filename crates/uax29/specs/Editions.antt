@@ -15,8 +15,11 @@ unfoldable pub conjunctIs : ℕ → Test
 conjunctIs k x = eqb (x .conjunct) k
 
 -- [ \p{InCB=Extend} \p{InCB=Linker} ]
+abbrev pub joiners : List ℕ
+joiners = Extend ∷ Linker ∷ []
+
 unfoldable pub joining : Test
-joining x = member (Extend ∷ Linker ∷ []) (x .conjunct)
+joining x = member joiners (x .conjunct)
 
 -- \p{InCB=Consonant} [ \p{InCB=Extend} \p{InCB=Linker} ]*
 unfoldable pub begun : Side

@@ -1,6 +1,7 @@
 // GB9c of Unicode 15.1 over lent columns: by looking back from a place, and in a pass that goes forward.
 use crate::conjunct::*;
 use crate::kept::is_met;
+use crate::words::in2;
 use crate::words::in3;
 use classes::cluster_break;
 use records::cells::cell8;
@@ -8,24 +9,13 @@ ghost use mathlib.Core.Path.{_≡_};
 ghost use mathlib.Core.Bool.{cond, _||_};
 ghost use mathlib.Core.List.{_++_};
 ghost use Prim.Native.Nat.{_≤_, _-_};
-ghost use lib.Dec.{eqb};
 ghost use lib.ListN.{length, drop};
 ghost use Rattle.basics.specs.Columns.{cells};
 ghost use Rattle.basics.specs.Sets.{member};
 ghost use Rattle.records.specs.Text.{cell};
 ghost use Rattle.uax29.specs.Clusters.{controls};
-ghost use Rattle.uax29.specs.Conjunct as Conjunct;
 ghost use Rattle.uax29.specs.Conjoined.{begunAt, linkedAt, conjoins, conjoinedAt, takenAt};
 ghost use Rattle.uax29.specs.EditionStep.{linkAfter, badLink};
-
-fn joins(conjunct: u8) -> bool
-    ensures { λ r. ⌜ r ≡ (eqb conjunct Conjunct.Extend || eqb conjunct Conjunct.Linker) ⌝ }
-{
-    if conjunct == Extend {
-        return true;
-    }
-    conjunct == Linker
-}
 
 // Whether a consonant and then extenders and linkers stand before a place.
 fn is_begun(conjuncts: &[u8], at: usize) -> bool
@@ -37,7 +27,7 @@ fn is_begun(conjuncts: &[u8], at: usize) -> bool
         if conjunct == Consonant {
             return true;
         }
-        if joins(conjunct) {
+        if in2(conjunct, Extend, Linker) {
             i -= 1;
         } else {
             return false;
@@ -179,7 +169,7 @@ pub(crate) fn take_starts(breaks: &[u8], conjuncts: &[u8], out: &mut [u8])
     }
 }
 
-fn taken(joined: bool, answer: u8) -> u8
+pub(crate) fn taken(joined: bool, answer: u8) -> u8
     ensures { λ r. ⌜ r ≡ cond joined 0 answer ⌝ }
 {
     if joined { 0 } else { answer }

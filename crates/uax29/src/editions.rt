@@ -5,6 +5,7 @@ use crate::conjoined::Link;
 use crate::conjoined::is_conjoined;
 use crate::conjoined::is_joined;
 use crate::conjoined::take_starts;
+use crate::conjoined::taken;
 use crate::conjunct;
 use crate::forward::write_starts;
 use crate::graphemes::GraphemeState;
@@ -18,7 +19,7 @@ use records::judge_columns;
 use records::judge_room;
 use records::refused;
 ghost use mathlib.Core.Path.{_≡_};
-ghost use mathlib.Core.Bool.{false};
+ghost use mathlib.Core.Bool.{false, cond};
 ghost use mathlib.Core.List.{_++_};
 ghost use Prim.Native.Nat.{_≤_, _<_};
 ghost use lib.ListN.{length, drop};
@@ -69,16 +70,11 @@ fn start_in(edition: u64, breaks: &[u8], marks: &[u8], conjuncts: &[u8], at: usi
     requires { ⌜ at < length (now breaks) ⌝ }
     ensures { λ r. ⌜ r ≡ startIn edition (now (breaks .entry)) (now (marks .entry)) (now (conjuncts .entry)) at ⌝ }
 {
-    if !boundary(breaks, marks, at) {
-        return 0;
+    let start = bit(boundary(breaks, marks, at));
+    if edition == UNICODE_15_1 {
+        return taken(is_conjoined(breaks, conjuncts, at), start);
     }
-    if edition != UNICODE_15_1 {
-        return 1;
-    }
-    if is_conjoined(breaks, conjuncts, at) {
-        return 0;
-    }
-    1
+    start
 }
 
 fn decide_starts_in(edition: u64, breaks: &[u8], marks: &[u8], conjuncts: &[u8], out: &mut [u8])
@@ -197,19 +193,21 @@ impl EditionState {
         }
     }
 
-    fn is_start(self, edition: u64, kind: u8, mark: u8, conjunct: u8) -> bool
+    // As of a place: GB9c takes away a start of 15.0, and gives none.
+    fn answer(self, edition: u64, kind: u8, mark: u8, conjunct: u8) -> u8
         requires { ⌜ badStateIn self ≡ false ⌝ }
-        ensures { λ r. ⌜ r ≡ startsIn edition self (itemOf kind mark conjunct) ⌝ }
+        ensures { λ r. ⌜ r ≡ cond (startsIn edition self (itemOf kind mark conjunct)) 1 0 ⌝ }
     {
         let graphemes = self.graphemes;
-        if !graphemes.is_start(kind, mark) {
-            return false;
-        }
-        if edition != UNICODE_15_1 {
-            return true;
-        }
         let link = self.link;
-        !is_joined(link.linked, conjunct, graphemes.previous, kind)
+        let start = bit(graphemes.is_start(kind, mark));
+        if edition == UNICODE_15_1 {
+            return taken(
+                is_joined(link.linked, conjunct, graphemes.previous, kind),
+                start,
+            );
+        }
+        start
     }
 
     // One record: the state after it and its answer, or a refusal with the same state and the answer 0.
@@ -226,7 +224,7 @@ impl EditionState {
         };
         EditionStep {
             state: self.after(kind, mark, conjunct),
-            answer: bit(self.is_start(edition, kind, mark, conjunct)),
+            answer: self.answer(edition, kind, mark, conjunct),
             verdict: Verdict::Accepted,
         }
     }

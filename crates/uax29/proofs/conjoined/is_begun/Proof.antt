@@ -23,8 +23,8 @@ cell8-requires c κs = search needs
 returns : tie.Need-returns Inv-loop μ-loop
 returns c = search begun-back depth 8
 
-joins-requires : tie.Need-joins-requires Inv-loop μ-loop
-joins-requires c κs = search needs
+in2-requires : tie.Need-in2-requires Inv-loop μ-loop
+in2-requires c κs = search needs
 
 sub-i : tie.Need-sub-i Inv-loop μ-loop
 sub-i c = search needs
@@ -51,7 +51,7 @@ is-begun-spec =
     sub-cell8
     cell8-requires
     returns
-    joins-requires
+    in2-requires
     sub-i
     loop-less
     loop-again

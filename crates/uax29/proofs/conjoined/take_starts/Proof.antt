@@ -5,7 +5,7 @@ use lib.ListN.{length}
 use Rattle.basics.specs.Columns.{cells}
 use Rattle.basics.proofs.Columns.{Written}
 use Rattle.uax29.specs.Conjoined.{takenAt}
-use Rattle.uax29.proofs.Links.{linkAt, link-none, link-more}
+use Rattle.uax29.proofs.Links.{linkAt, link-none, link-more, turn-taken}
 use borrow.Author.Needs.{needs}
 use Rattle.uax29.proofs.conjoined.take_starts.Statement.{statement}
 use Rattle.uax29.proofs.conjoined.take_starts.Tie as tie
@@ -51,7 +51,7 @@ loop-less : tie.Need-loop-less Inv-loop μ-loop
 loop-less c = search needs
 
 loop-again : tie.Need-loop-again Inv-loop μ-loop
-loop-again c = (search needs, (search needs, (?, ?)))
+loop-again c = (search needs, (search needs, (search link-more, turn-taken _ _ _ _ _ (c .before .before .before .before .before .before .before .before .loop .inv .1 .1 .0) _ (c .before .before .before .before .before .before .cell8 .ensures) _ _ _ _ (c .before .before .before .before .before .class-before .ensures) (c .before .before .before .is-joined .ensures) (c .before .taken .ensures) (omega arith) (c .before .before .before .before .before .before .before .before .loop .inv .1 .1 .1))))
 
 same-length : tie.Need-same-length Inv-loop μ-loop
 same-length c = search needs
