@@ -51,25 +51,42 @@ or-second : (c d : Bool) → d ≡ true → (c || d) ≡ true
 or-second true d e = refl
 or-second false d e = e
 
+-- A rule behind GB9b that says ×: what is decided with it and without it, where it does not apply at the text's edges. Of the rules before
+-- it only GB4 and GB5 can say ÷ elsewhere.
+module _ (before after : List Item) (r : Rule) (says : r .parts ≡ false) (later : List Rule)
+    (start : applies GB1 before after ≡ true → not (applies r before after && not (applies GB4 before after || applies GB5 before after)) ≡ true)
+    (end : applies GB2 before after ≡ true → not (applies r before after && not (applies GB4 before after || applies GB5 before after)) ≡ true) where
+  pub inserted : decide (GB1 ∷ GB2 ∷ GB3 ∷ GB4 ∷ GB5 ∷ GB6 ∷ GB7 ∷ GB8 ∷ GB9 ∷ GB9a ∷ GB9b ∷ r ∷ later) before after
+      ≡ (decide (GB1 ∷ GB2 ∷ GB3 ∷ GB4 ∷ GB5 ∷ GB6 ∷ GB7 ∷ GB8 ∷ GB9 ∷ GB9a ∷ GB9b ∷ later) before after
+      && not (applies r before after && not (applies GB4 before after || applies GB5 before after)))
+  unfolding decide applies GB1 GB2 GB3 GB4 GB5 GB6 GB7 GB8 GB9 GB9a GB9b
+  inserted =
+      let g : Rule → Bool = λ q. applies q before after in
+      let k = not (g r && not (g GB4 || g GB5)) in
+      parts (g GB1) _ _ k start (λ n1.
+      parts (g GB2) _ _ k end (λ n2.
+      skips (g GB3) _ _ k (
+      parts (g GB4) _ _ k (λ h. by-control (g r) (g GB4) (g GB5) (rw h)) (λ n4.
+      parts (g GB5) _ _ k (λ h. by-control (g r) (g GB4) (g GB5) (or-second (g GB4) (g GB5) h)) (λ n5.
+      skips (g GB6) _ _ k (skips (g GB7) _ _ k (skips (g GB8) _ _ k (skips (g GB9) _ _ k (skips (g GB9a) _ _ k (skips (g GB9b) _ _ k (
+      rw says (decides (g r) (g GB4) (g GB5) _ n4 n5))))))))))))
+
 -- the annex of 15.1 is that of 15.0 but where GB9c decides
 pub decide-151 : (before after : List Item) → decide rules151 before after ≡ (decide rules before after && not (conjoined before after))
-unfolding decide GB1 GB2 GB3 GB4 GB5 GB6 GB7 GB8 GB9 GB9a GB9b GB9c conjoined
+unfolding conjoined GB9c
 decide-151 before after =
-    let g : Rule → Bool = λ r. applies r before after in
-    let k = not (conjoined before after) in
-    parts (g GB1) _ _ k (at-start before after) (λ n1.
-    parts (g GB2) _ _ k (at-end before after) (λ n2.
-    skips (g GB3) _ _ k (
-    parts (g GB4) _ _ k (λ h. by-control (g GB9c) (g GB4) (g GB5) (rw h)) (λ n4.
-    parts (g GB5) _ _ k (λ h. by-control (g GB9c) (g GB4) (g GB5) (or-second (g GB4) (g GB5) h)) (λ n5.
-    skips (g GB6) _ _ k (skips (g GB7) _ _ k (skips (g GB8) _ _ k (skips (g GB9) _ _ k (skips (g GB9a) _ _ k (skips (g GB9b) _ _ k (
-    decides (g GB9c) (g GB4) (g GB5) _ n4 n5)))))))))))
+    inserted before after GB9c refl (GB11 ∷ GB12 ∷ GB13 ∷ GB999 ∷ [])
+    (unfold conjoined GB9c in at-start before after) (unfold conjoined GB9c in at-end before after)
 
 -- The two editions over lent columns: what Req 05 decides is edition 15.0's, whatever the third column holds.
 module _ (breaks marks conjuncts : List ℕ) (at : ℕ) where
-  pub boundary-150 : boundaryIn 150 breaks marks conjuncts at ≡ boundaryAt breaks marks at
-  unfolding boundaryIn boundaryAt rulesOf
+  boundary-150 : cond (ltb (length breaks) at) false (decide rules (beforeIn breaks marks conjuncts at) (afterIn breaks marks conjuncts at)) ≡ boundaryAt breaks marks at
+  unfolding boundaryAt
   boundary-150 = ap (cond (ltb (length breaks) at) false) (decides-alike breaks marks conjuncts at)
+
+  pub boundary-other : (edition : ℕ) → eqb edition 151 ≡ false → boundaryIn edition breaks marks conjuncts at ≡ boundaryAt breaks marks at
+  unfolding boundaryIn boundaryAt rulesOf
+  boundary-other edition e = rw e (boundary-150)
 
   pub boundary-151 : boundaryIn 151 breaks marks conjuncts at
       ≡ (boundaryAt breaks marks at && not (conjoined (beforeIn breaks marks conjuncts at) (afterIn breaks marks conjuncts at)))
@@ -81,7 +98,7 @@ module _ (breaks marks conjuncts : List ℕ) (at : ℕ) where
 
   -- "no place is a start in 15.1 that wasn't one in 15.0"
   pub none-new : boundaryIn 151 breaks marks conjuncts at ≡ true → boundaryIn 150 breaks marks conjuncts at ≡ true
-  none-new h = boundary-150 ∙ both (boundaryAt breaks marks at) _ (sym boundary-151 ∙ h) .0
+  none-new h = boundary-other 150 refl ∙ both (boundaryAt breaks marks at) _ (sym boundary-151 ∙ h) .0
 
   -- GB9c asks of the record at the place itself
   unasked : (n : ℕ) → eqb (cell conjuncts at) Consonant ≡ false → one (conjunctIs Consonant) (itemsFrom breaks marks conjuncts at n) ≡ false
@@ -93,7 +110,7 @@ module _ (breaks marks conjuncts : List ℕ) (at : ℕ) where
   pub none-asked : cell conjuncts at ≡ 0 → boundaryIn 151 breaks marks conjuncts at ≡ boundaryIn 150 breaks marks conjuncts at
   unfolding conjoined applies GB9c
   none-asked e = boundary-151
-      ∙ rw (unasked (length breaks - at) (ap (λ c. eqb c Consonant) e), and-false (GB9c .before (beforeIn breaks marks conjuncts at)), and-true (boundaryAt breaks marks at)) (sym boundary-150)
+      ∙ rw (unasked (length breaks - at) (ap (λ c. eqb c Consonant) e), and-false (GB9c .before (beforeIn breaks marks conjuncts at)), and-true (boundaryAt breaks marks at)) (sym (boundary-other 150 refl))
 
 -- what GB9c needs to know of what came before, kept record by record
 pub begun-next : (x : Item) (xs : List Item) → begun (x ∷ xs) ≡ (conjunctIs Consonant x || joining x && begun xs)

@@ -1,5 +1,6 @@
 pub mod Blind
 pub mod EditionRules
+pub mod EditionLaws
 pub mod ClustersSides
 pub mod GraphemeSummary
 pub mod GraphemeStanding

@@ -24,6 +24,8 @@ ghost use mathlib.Core.List.{_++_};
 ghost use Prim.Native.Nat.{_≤_, _<_};
 ghost use lib.ListN.{length, drop};
 ghost use Rattle.basics.specs.Columns.{cells};
+ghost use Rattle.records.specs.declared.Verdict.the-variants.{Accepted};
+ghost use Rattle.uax29.specs.Graphemes.{graphemeCheck};
 ghost use Rattle.uax29.specs.EditionRuns.{startIn, unknown, editionCheck, editionVerdict, editionCells};
 ghost use Rattle.uax29.specs.EditionStep.{itemOf, startState, badLink, badStateIn, advanceIn, startsIn, stepVerdictIn, stepIn};
 
@@ -107,7 +109,18 @@ pub fn edition_back(
     Verdict::Accepted
 }
 
-// The same answers by passes that go forward: those of 15.0, and for 15.1 one that takes starts away.
+// The answers of 15.0, and for 15.1 a pass that takes starts away.
+fn write_starts_in(edition: u64, breaks: &[u8], marks: &[u8], conjuncts: &[u8], out: &mut [u8])
+    requires { ⌜ (graphemeCheck (now breaks) (now marks) ≡ Accepted) × (length (now breaks) ≤ length (now out)) ⌝ }
+    ensures { λ _. ⌜ now (out .exit) ≡ cells (startIn edition (now (breaks .entry)) (now (marks .entry)) (now (conjuncts .entry))) (length (now (breaks .entry))) ++ drop (length (now (breaks .entry))) (now (out .entry)) ⌝ }
+{
+    write_starts(breaks, marks, out);
+    if edition == UNICODE_15_1 {
+        take_starts(breaks, conjuncts, out);
+    }
+}
+
+// The same answers by passes that go forward.
 pub fn edition_forward(
     edition: u64,
     breaks: &[u8],
@@ -122,10 +135,7 @@ pub fn edition_forward(
     let Verdict::Accepted = verdict else {
         return verdict;
     };
-    write_starts(breaks, marks, out);
-    if edition == UNICODE_15_1 {
-        take_starts(breaks, conjuncts, out);
-    }
+    write_starts_in(edition, breaks, marks, conjuncts, out);
     Verdict::Accepted
 }
 

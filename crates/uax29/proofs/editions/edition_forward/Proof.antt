@@ -1,50 +1,28 @@
+use Rattle.uax29.proofs.EditionLaws.{run-refused, run-whole, run-checked, run-long}
 use borrow.Author.Needs.{needs}
 use Rattle.uax29.proofs.editions.edition_forward.Statement.{statement}
 use Rattle.uax29.proofs.editions.edition_forward.Tie as tie
-use Rattle.uax29.proofs.editions.edition_forward.Reads as reads
-use Rattle.uax29.proofs.editions.edition_forward.Lts as lts
-use Rattle.uax29.proofs.conjoined.take_starts.Reads as take-starts-reads
-use Rattle.uax29.proofs.editions.judge.Reads as judge-reads
-use Rattle.uax29.proofs.forward.write_starts.Reads as write-starts-reads
 
--- src/editions.rt:121:9
 judge-requires : tie.Need-judge-requires
 judge-requires c κs = search needs
 
 enum-told : tie.Need-enum-told
 enum-told c = search needs
 
--- src/editions.rt:123:9
 enum-told-2 : tie.Need-enum-told-2
 enum-told-2 c = search needs
 
--- src/editions.rt:123:9
 returns : tie.Need-returns
-returns c = ?
+returns c = run-refused _ _ _ _ _ _ (c .before .before .judge .ensures) _ (c .enum-told2 .given .1)
 
--- src/editions.rt:125:5
-write-starts-requires : tie.Need-write-starts-requires
-write-starts-requires c κs = search needs
+write-starts-in-requires : tie.Need-write-starts-in-requires
+write-starts-in-requires c κs = search (run-checked, run-long)
 
--- src/editions.rt:127:9
-take-starts-requires : tie.Need-take-starts-requires
-take-starts-requires c κs = search needs
-
--- src/editions.rt:111:1
 same-length : tie.Need-same-length
 same-length c = search needs
 
--- src/editions.rt:111:1
 returns-2 : tie.Need-returns-2
-returns-2 c = ?
-
--- src/editions.rt:111:1
-same-length-2 : tie.Need-same-length-2
-same-length-2 c = search needs
-
--- src/editions.rt:111:1
-returns-3 : tie.Need-returns-3
-returns-3 c = ?
+returns-2 c = run-whole _ _ _ _ _ _ (c .before .before .before .before .before .before .judge .ensures) _ (c .before .before .before .before .enum-told .given .1) (c .before .before .write-starts-in .ensures)
 
 pub edition-forward-spec : {M : Type 1} → statement M
 edition-forward-spec =
@@ -54,9 +32,6 @@ edition-forward-spec =
     enum-told
     enum-told-2
     returns
-    write-starts-requires
-    take-starts-requires
+    write-starts-in-requires
     same-length
-    returns-2
-    same-length-2
-    returns-3)
+    returns-2)
