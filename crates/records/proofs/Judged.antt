@@ -110,9 +110,9 @@ barred-complex parser scalar class e = both (isComplex parser) _ (sym (or-false 
 
 module _ (numbers : List ℕ) (parser : Parser) (t : Text) (more : List Line) (ordered : Ordered numbers (tableOf parser t more)) where
   -- what a call adds are 8 and 9
-  added : (number : ℕ) → rank number < 9 → breaks more number ≡ true → ⊥
+  added : (number : ℕ) → rank number < 10 → breaks more number ≡ true → ⊥
   added number h b =
-      omega (arith, broken-fits numbers Neither 9 11 more number (both (fits numbers Neither 8 11 7) (inOrder numbers Neither 9 11 more) (ordered .after) .1) b .from)
+      omega (arith, broken-fits numbers Neither 10 12 more number (both (fits numbers Neither 9 12 7) (inOrder numbers Neither 10 12 more) (ordered .after) .1) b .from)
 
   offence-six : (side : Side) (index : ℕ) → Offends (tableOf parser t more) (refusal 6 side index) → isComplex parser ≡ true
   offence-six Neither index (i, b) = absurd (added 6 (omega arith) b)

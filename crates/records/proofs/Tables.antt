@@ -2,7 +2,7 @@
 -- call that refuses, `by-table`. Assumes nothing.
 use Prim.Native.Nat.{ℕ, zero, suc, _+_, _<_, _≤_}
 use mathlib.Core.Path.{_≡_, refl, sym, _∙_, ap, subst}
-use mathlib.Core.Bool.{Bool, true, false, cond, _&&_, _||_, and-false, or-true, or-assoc, false≢true}
+use mathlib.Core.Bool.{Bool, true, false, cond, _&&_, _||_, and-false, or-true, or-false, or-assoc, false≢true}
 use mathlib.Core.List.{List, [], _∷_, _++_}
 use mathlib.Core.Logic.{_⊎_, inl, inr, ⊎-elim}
 use native.Mathlib.Nat.{eq-or-lt-of-le, le-of-eq}
@@ -67,46 +67,60 @@ breaks-append (l ∷ ls) ms number =
 -- # The order of offences
 
 -- what a number's rank is
-ranked : (n : ℕ) → ((n ≡ 10) × (rank n ≡ 3)) ⊎ (((n < 3) × (rank n ≡ n)) ⊎ ((3 ≤ n) × (rank n ≡ n + 1)))
-ranked n =
-    by-test (eqb n 10) (λ e. inl (eqb-true n 10 e, rw e))
-    (λ e. by-test (ltb n 3) (λ f. inr (inl (ltb-true n 3 f, rw (e, f)))) (λ f. inr (inr (ltb-false n 3 f, rw (e, f)))))
+abbrev Ranked : ℕ → Type 0
+Ranked n = ((n ≡ 15) × (rank n ≡ 0)) ⊎ (((n ≡ 10) × (rank n ≡ 4)) ⊎ (((n < 3) × (rank n ≡ n + 1)) ⊎ ((3 ≤ n) × (rank n ≡ n + 2))))
 
--- it tells the number, and rises with it but for 10
+ranked : (n : ℕ) → Ranked n
+ranked n =
+    by-test (eqb n 15) (λ d. inl (eqb-true n 15 d, rw d))
+    (λ d. by-test (eqb n 10) (λ e. inr (inl (eqb-true n 10 e, rw (d, e))))
+    (λ e. by-test (ltb n 3) (λ f. inr (inr (inl (ltb-true n 3 f, rw (d, e, f))))) (λ f. inr (inr (inr (ltb-false n 3 f, rw (d, e, f)))))))
+
+-- it tells the number, and rises with it but for 10 and 15
 rank-tells : (a b : ℕ) → rank a ≡ rank b → a ≡ b
 rank-tells a b e = go (ranked a) (ranked b)
   where
-    go : ((a ≡ 10) × (rank a ≡ 3)) ⊎ (((a < 3) × (rank a ≡ a)) ⊎ ((3 ≤ a) × (rank a ≡ a + 1))) → ((b ≡ 10) × (rank b ≡ 3)) ⊎ (((b < 3) × (rank b ≡ b)) ⊎ ((3 ≤ b) × (rank b ≡ b + 1))) → a ≡ b
+    go : Ranked a → Ranked b → a ≡ b
     go (inl p) (inl q) = omega (arith, p .0, q .0)
-    go (inl p) (inr (inl q)) = absurd (omega (arith, e, p .1, q .0, q .1))
-    go (inl p) (inr (inr q)) = absurd (omega (arith, e, p .1, q .0, q .1))
-    go (inr (inl p)) (inl q) = absurd (omega (arith, e, q .1, p .0, p .1))
-    go (inr (inl p)) (inr (inl q)) = omega (arith, e, p .1, q .1)
-    go (inr (inl p)) (inr (inr q)) = absurd (omega (arith, e, p .0, p .1, q .0, q .1))
-    go (inr (inr p)) (inl q) = absurd (omega (arith, e, q .1, p .0, p .1))
-    go (inr (inr p)) (inr (inl q)) = absurd (omega (arith, e, p .0, p .1, q .0, q .1))
-    go (inr (inr p)) (inr (inr q)) = omega (arith, e, p .1, q .1)
+    go (inl p) (inr (inl q)) = absurd (omega (arith, e, p .1, q .1))
+    go (inl p) (inr (inr (inl q))) = absurd (omega (arith, e, p .1, q .1))
+    go (inl p) (inr (inr (inr q))) = absurd (omega (arith, e, p .1, q .1))
+    go (inr (inl p)) (inl q) = absurd (omega (arith, e, p .1, q .1))
+    go (inr (inl p)) (inr (inl q)) = omega (arith, p .0, q .0)
+    go (inr (inl p)) (inr (inr (inl q))) = absurd (omega (arith, e, p .1, q .0, q .1))
+    go (inr (inl p)) (inr (inr (inr q))) = absurd (omega (arith, e, p .1, q .0, q .1))
+    go (inr (inr (inl p))) (inl q) = absurd (omega (arith, e, p .1, q .1))
+    go (inr (inr (inl p))) (inr (inl q)) = absurd (omega (arith, e, q .1, p .0, p .1))
+    go (inr (inr (inl p))) (inr (inr (inl q))) = omega (arith, e, p .1, q .1)
+    go (inr (inr (inl p))) (inr (inr (inr q))) = absurd (omega (arith, e, p .0, p .1, q .0, q .1))
+    go (inr (inr (inr p))) (inl q) = absurd (omega (arith, e, p .1, q .1))
+    go (inr (inr (inr p))) (inr (inl q)) = absurd (omega (arith, e, q .1, p .0, p .1))
+    go (inr (inr (inr p))) (inr (inr (inl q))) = absurd (omega (arith, e, p .0, p .1, q .0, q .1))
+    go (inr (inr (inr p))) (inr (inr (inr q))) = omega (arith, e, p .1, q .1)
 
-rank-rises : (a b : ℕ) → (b ≡ 10 → ⊥) → a < b → rank a < rank b
-rank-rises a b ten l = go (ranked a) (ranked b)
+rank-rises : (a b : ℕ) → member (10 ∷ 15 ∷ []) b ≡ false → a < b → rank a < rank b
+rank-rises a b apart l = go (ranked a) (ranked b)
   where
-    go : ((a ≡ 10) × (rank a ≡ 3)) ⊎ (((a < 3) × (rank a ≡ a)) ⊎ ((3 ≤ a) × (rank a ≡ a + 1))) → ((b ≡ 10) × (rank b ≡ 3)) ⊎ (((b < 3) × (rank b ≡ b)) ⊎ ((3 ≤ b) × (rank b ≡ b + 1))) → rank a < rank b
-    go p (inl q) = absurd (ten (q .0))
-    go (inl p) (inr (inl q)) = absurd (omega (arith, p .0, q .0))
-    go (inr (inl p)) (inr (inl q)) = omega (arith, p .1, q .1)
-    go (inr (inr p)) (inr (inl q)) = absurd (omega (arith, p .0, q .0))
-    go (inl p) (inr (inr q)) = omega (arith, p .1, q .0, q .1)
-    go (inr (inl p)) (inr (inr q)) = omega (arith, p .1, q .1)
-    go (inr (inr p)) (inr (inr q)) = omega (arith, p .1, q .1)
+    go : Ranked a → Ranked b → rank a < rank b
+    go p (inl q) = absurd (false≢true (sym apart ∙ ap (member (10 ∷ 15 ∷ [])) (q .0)))
+    go p (inr (inl q)) = absurd (false≢true (sym apart ∙ ap (member (10 ∷ 15 ∷ [])) (q .0)))
+    go (inl p) (inr (inr (inl q))) = omega (arith, p .1, q .1)
+    go (inl p) (inr (inr (inr q))) = omega (arith, p .1, q .1)
+    go (inr (inl p)) (inr (inr (inl q))) = absurd (omega (arith, p .0, q .0))
+    go (inr (inl p)) (inr (inr (inr q))) = omega (arith, p .1, q .0, q .1)
+    go (inr (inr (inl p))) (inr (inr (inl q))) = omega (arith, p .1, q .1)
+    go (inr (inr (inl p))) (inr (inr (inr q))) = omega (arith, p .1, q .1)
+    go (inr (inr (inr p))) (inr (inr (inl q))) = absurd (omega (arith, p .0, q .0))
+    go (inr (inr (inr p))) (inr (inr (inr q))) = omega (arith, p .1, q .1)
 
 stage-rises : (side : Side) (number number′ : ℕ) → rank number ≤ rank number′ → stageAt side number ≤ stageAt side number′
 stage-rises Part number number′ h = omega arith
 stage-rises Record number number′ h = omega arith
-stage-rises Neither number number′ h = go (ltb (rank number) 4) (ltb (rank number′) 4) refl refl
+stage-rises Neither number number′ h = go (ltb (rank number) 5) (ltb (rank number′) 5) refl refl
   where
-    go : (a b : Bool) → ltb (rank number) 4 ≡ a → ltb (rank number′) 4 ≡ b → cond a 0 3 ≤ cond b 0 3
+    go : (a b : Bool) → ltb (rank number) 5 ≡ a → ltb (rank number′) 5 ≡ b → cond a 0 3 ≤ cond b 0 3
     go true b e f = omega arith
-    go false true e f = absurd (omega (arith, ltb-false (rank number) 4 e, ltb-true (rank number′) 4 f))
+    go false true e f = absurd (omega (arith, ltb-false (rank number) 5 e, ltb-true (rank number′) 5 f))
     go false false e f = omega arith
 
 -- at one side and index only what ranks lower comes earlier, and it does
@@ -224,12 +238,12 @@ between false k l h e = omega arith
 stage-tells : (number : ℕ) (a b : Side) → stageAt a number ≡ stageAt b number → a ≡ b
 stage-tells number Record Record e = refl
 stage-tells number Record Part e = absurd (omega arith)
-stage-tells number Record Neither e = absurd (between (ltb (rank number) 4) 2 (omega arith) (omega arith) e)
+stage-tells number Record Neither e = absurd (between (ltb (rank number) 5) 2 (omega arith) (omega arith) e)
 stage-tells number Part Record e = absurd (omega arith)
 stage-tells number Part Part e = refl
-stage-tells number Part Neither e = absurd (between (ltb (rank number) 4) 1 (omega arith) (omega arith) e)
-stage-tells number Neither Record e = absurd (between (ltb (rank number) 4) 2 (omega arith) (omega arith) (sym e))
-stage-tells number Neither Part e = absurd (between (ltb (rank number) 4) 1 (omega arith) (omega arith) (sym e))
+stage-tells number Part Neither e = absurd (between (ltb (rank number) 5) 1 (omega arith) (omega arith) e)
+stage-tells number Neither Record e = absurd (between (ltb (rank number) 5) 2 (omega arith) (omega arith) (sym e))
+stage-tells number Neither Part e = absurd (between (ltb (rank number) 5) 1 (omega arith) (omega arith) (sym e))
 stage-tells number Neither Neither e = refl
 
 same-refusal : (number number′ : ℕ) (side side′ : Side) (index index′ : ℕ) → number ≡ number′ → side ≡ side′ → index ≡ index′ → refusal number side index ≡ refusal number′ side′ index′
@@ -267,10 +281,10 @@ firstOf t =
     ⊳ firstLine (t .after) Neither 0
 
 pub record Ordered (numbers : List ℕ) (t : Table) : Type 0 where
-  pub before : inOrder numbers Neither 1 4 (t .before) ≡ true
-  pub parts : (i : ℕ) → inOrder numbers Part 4 8 (t .ofPart i) ≡ true
-  pub records : (i : ℕ) → inOrder numbers Record 4 8 (t .ofRecord i) ≡ true
-  pub after : inOrder numbers Neither 8 11 (t .after) ≡ true
+  pub before : inOrder numbers Neither 0 5 (t .before) ≡ true
+  pub parts : (i : ℕ) → inOrder numbers Part 5 9 (t .ofPart i) ≡ true
+  pub records : (i : ℕ) → inOrder numbers Record 5 9 (t .ofRecord i) ≡ true
+  pub after : inOrder numbers Neither 9 12 (t .after) ≡ true
 
 module _ (numbers : List ℕ) (t : Table) (ordered : Ordered numbers t) where
   abbrev Before : Offences
@@ -287,14 +301,14 @@ module _ (numbers : List ℕ) (t : Table) (ordered : Ordered numbers t) where
 
   staged-before : (r : Refusal) → Before r → stage r ≤ 0
   staged-before r o =
-      let h : rank (r .number) < 4 = broken-fits numbers Neither 1 4 (t .before) (r .number) (ordered .before) (o .2) .below in
-      rw (o .0, lt-ltb (rank (r .number)) 4 h) (omega arith)
+      let h : rank (r .number) < 5 = broken-fits numbers Neither 0 5 (t .before) (r .number) (ordered .before) (o .2) .below in
+      rw (o .0, lt-ltb (rank (r .number)) 5 h) (omega arith)
 
   staged-after : (r : Refusal) → After r → 2 < stage r
   staged-after r o =
-      let h : 8 ≤ rank (r .number) = broken-fits numbers Neither 8 11 (t .after) (r .number) (ordered .after) (o .2) .from in
-      let l : 4 ≤ rank (r .number) = omega arith in
-      rw (o .0, le-ltb (rank (r .number)) 4 l) (omega arith)
+      let h : 9 ≤ rank (r .number) = broken-fits numbers Neither 9 12 (t .after) (r .number) (ordered .after) (o .2) .from in
+      let l : 5 ≤ rank (r .number) = omega arith in
+      rw (o .0, le-ltb (rank (r .number)) 5 l) (omega arith)
 
   staged-records : (r : Refusal) → Records r → stage r ≡ 2
   staged-records r o = ap (λ s. stageAt s (r .number)) (o .0)
@@ -336,22 +350,22 @@ module _ (numbers : List ℕ) (t : Table) (ordered : Ordered numbers t) where
       same-judges (Either Before (Either Parts (Either Records After))) (Offends t) (firstOf t) listed (λ r. parted (r .number) (r .side) (r .index))
       (then-judges Before (Either Parts (Either Records After)) (firstLine (t .before) Neither 0) (parts ⊳ records ⊳ after)
       (by-stage Before (Either Parts (Either Records After)) 0 staged-before from-parts)
-      (lines-judge numbers Neither 0 1 4 (t .before) (ordered .before))
+      (lines-judge numbers Neither 0 0 5 (t .before) (ordered .before))
       (then-judges Parts (Either Records After) parts (records ⊳ after)
       (by-stage Parts (Either Records After) 1 (λ r o. omega (arith, staged-parts r o)) from-records)
-      (over-judges numbers Part 4 8 (t .ofPart) (ordered .parts) (λ n m. refl) (t .parts) 0)
+      (over-judges numbers Part 5 9 (t .ofPart) (ordered .parts) (λ n m. refl) (t .parts) 0)
       (then-judges Records After records after
       (by-stage Records After 2 (λ r o. omega (arith, staged-records r o)) staged-after)
-      (over-judges numbers Record 4 8 (t .ofRecord) (ordered .records) (λ n m. refl) (t .records) 0)
-      (lines-judge numbers Neither 0 8 11 (t .after) (ordered .after)))))
+      (over-judges numbers Record 5 9 (t .ofRecord) (ordered .records) (λ n m. refl) (t .records) 0)
+      (lines-judge numbers Neither 0 9 12 (t .after) (ordered .after)))))
 
   offence-listed : (number : ℕ) (side : Side) (index : ℕ) → Offends t (refusal number side index) → (member numbers number ≡ true) × (member (sideNumbers side) number ≡ true)
   offence-listed number Neither index (i, b) =
-      ⊎-elim (λ h. told (broken-fits numbers Neither 1 4 (t .before) number (ordered .before) h))
-      (λ h. told (broken-fits numbers Neither 8 11 (t .after) number (ordered .after) h))
+      ⊎-elim (λ h. told (broken-fits numbers Neither 0 5 (t .before) number (ordered .before) h))
+      (λ h. told (broken-fits numbers Neither 9 12 (t .after) number (ordered .after) h))
       (either (breaks (t .before) number) (breaks (t .after) number) (sym (breaks-append (t .before) (t .after) number) ∙ b))
-  offence-listed number Part index (h, b) = told (broken-fits numbers Part 4 8 (t .ofPart index) number (ordered .parts index) b)
-  offence-listed number Record index (h, b) = told (broken-fits numbers Record 4 8 (t .ofRecord index) number (ordered .records index) b)
+  offence-listed number Part index (h, b) = told (broken-fits numbers Part 5 9 (t .ofPart index) number (ordered .parts index) b)
+  offence-listed number Record index (h, b) = told (broken-fits numbers Record 5 9 (t .ofRecord index) number (ordered .records index) b)
 
   judges-carries : (v : Verdict) → Judges (Offends t) v → Carries numbers t v
   judges-carries Accepted j = tt
@@ -366,11 +380,18 @@ module _ (numbers : List ℕ) (t : Table) (ordered : Ordered numbers t) where
       record {
         first = j;
         only = λ w q. judges-unique (Offends t) w v q j;
-        lower = λ r f ten number l o. (subst (Judges (Offends t)) f j) .1 (refusal number (r .side) (r .index)) (lower-earlier r number (rank-rises number (r .number) ten l)) o;
+        lower = λ r f apart number l o. (subst (Judges (Offends t)) f j) .1 (refusal number (r .side) (r .index)) (lower-earlier r number (rank-rises number (r .number) apart l)) o;
         carries = judges-carries v j;
       }
 
--- A call that cannot give 10: of one side and index the smallest number is told, whatever it is.
-pub lower-number : (numbers : List ℕ) (t : Table) (v : Verdict) → member numbers 10 ≡ false → ByTable numbers t v → (r : Refusal) → v ≡ Refused r → (number : ℕ) → number < r .number → Offends t (refusal number (r .side) (r .index)) → ⊥
-lower-number numbers t v none told r e number =
-    told .lower r e (λ ten. false≢true (sym none ∙ ap (member numbers) (sym ten) ∙ subst (Carries numbers t) e (told .carries) .0)) number
+-- A call that can give neither 10 nor 15: of one side and index the smallest number is told, whatever it is.
+pub lower-number : (numbers : List ℕ) (t : Table) (v : Verdict) → member numbers 10 ≡ false → member numbers 15 ≡ false → ByTable numbers t v → (r : Refusal) → v ≡ Refused r → (number : ℕ) → number < r .number → Offends t (refusal number (r .side) (r .index)) → ⊥
+lower-number numbers t v ten fifteen told r e number =
+    told .lower r e
+    (by-test (member (10 ∷ 15 ∷ []) (r .number))
+    (λ h. absurd (⊎-elim (λ k. never 10 ten (eqb-true (r .number) 10 k))
+    (λ k. never 15 fifteen (eqb-true (r .number) 15 (sym (or-false (eqb (r .number) 15)) ∙ k))) (either (eqb (r .number) 10) (eqb (r .number) 15 || false) h)))
+    (λ h. h)) number
+  where
+    never : (n : ℕ) → member numbers n ≡ false → r .number ≡ n → ⊥
+    never n none k = false≢true (sym none ∙ ap (member numbers) (sym k) ∙ subst (Carries numbers t) e (told .carries) .0)

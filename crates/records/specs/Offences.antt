@@ -69,13 +69,14 @@ Offends t r = Within t (r .side) (r .index) × (breaks (linesAt t (r .side) (r .
 
 -- # Their order
 
--- the place of a number in the order of testing: as the numbers rise, but 10, which a lent table is refused by, "after 2" (SCOPE 12.1)
+-- the place of a number in the order of testing: as the numbers rise, but 10, which a lent table is refused by, "after 2" (SCOPE 12.1), and
+-- 15, "tested first" (SCOPE 12.6)
 abbrev pub rank : ℕ → ℕ
-rank number = cond (eqb number 10) 3 (cond (ltb number 3) number (number + 1))
+rank number = cond (eqb number 15) 0 (cond (eqb number 10) 4 (cond (ltb number 3) (number + 1) (number + 2)))
 
--- what is about neither comes first with 1, 2 and 10, and last with 7, 8 and 9
+-- what is about neither comes first with 15, 1, 2 and 10, and last with 7, 8 and 9
 abbrev pub stageAt : Side → ℕ → ℕ
-stageAt Neither number = cond (ltb (rank number) 4) 0 3
+stageAt Neither number = cond (ltb (rank number) 5) 0 3
 stageAt Part number = 1
 stageAt Record number = 2
 
@@ -97,7 +98,7 @@ Judges offends (Refused r) = offends r × ((q : Refusal) → Earlier q r → off
 
 -- the numbers that go with a side: 5 is about records alone
 abbrev pub sideNumbers : Side → List ℕ
-sideNumbers Neither = 1 ∷ 2 ∷ 7 ∷ 8 ∷ 9 ∷ 10 ∷ []
+sideNumbers Neither = 1 ∷ 2 ∷ 7 ∷ 8 ∷ 9 ∷ 10 ∷ 15 ∷ []
 sideNumbers Part = 3 ∷ 4 ∷ 6 ∷ []
 sideNumbers Record = 3 ∷ 4 ∷ 5 ∷ 6 ∷ []
 
@@ -112,7 +113,7 @@ Carries numbers t (Refused r) =
 pub record ByTable (numbers : List ℕ) (t : Table) (v : Verdict) : Type 0 where
   pub first : Judges (Offends t) v
   pub only : (w : Verdict) → Judges (Offends t) w → w ≡ v
-  pub lower : (r : Refusal) → v ≡ Refused r → (r .number ≡ 10 → ⊥) → (number : ℕ) → number < r .number → Offends t (refusal number (r .side) (r .index)) → ⊥
+  pub lower : (r : Refusal) → v ≡ Refused r → (member (10 ∷ 15 ∷ []) (r .number) ≡ false) → (number : ℕ) → number < r .number → Offends t (refusal number (r .side) (r .index)) → ⊥
   pub carries : Carries numbers t v
 
 -- 6 is of complex, Khmer or not, and 7 of Khmer
