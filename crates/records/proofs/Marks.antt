@@ -96,9 +96,9 @@ module _ (a b c : ℕ) (h : judgeLengths (a ∷ b ∷ c ∷ []) [] ≡ Accepted)
 -- what the check of three columns accepts, that of two of them accepts
 module _ (len otherLen : ℕ) (classes others marks : List ℕ) (shape : judgeLengths (length classes ∷ length others ∷ length marks ∷ []) [] ≡ Accepted)
     (codes : over (λ i. judgeThree len otherLen (cell classes i) (cell others i) (cell marks i) i) 0 (length classes) ≡ Accepted) where
-  listed : (k : ℕ) → k < length classes → (leb len (cell classes k) ≡ false) × ((leb otherLen (cell others k) ≡ false) × (leb 2 (cell marks k) ≡ false))
+  pub three-listed : (k : ℕ) → k < length classes → (leb len (cell classes k) ≡ false) × ((leb otherLen (cell others k) ≡ false) × (leb 2 (cell marks k) ≡ false))
   unfolding judgeThree
-  listed k h =
+  three-listed k h =
       let one = over-each (λ i. judgeThree len otherLen (cell classes i) (cell others i) (cell marks i) i) (length classes) 0 codes k (omega arith) (omega arith) in
       let p = neither (leb len (cell classes k)) (leb otherLen (cell others k) || (leb 2 (cell marks k) || false)) (unrefused _ 4 Record k one) in
       let q = neither (leb otherLen (cell others k)) (leb 2 (cell marks k) || false) (p .1) in
@@ -108,7 +108,7 @@ module _ (len otherLen : ℕ) (classes others marks : List ℕ) (shape : judgeLe
   unfolding markedVerdict judgeMarked
   three-first =
       let all = each-over (λ i. judgeMarked len (cell classes i) (cell marks i) i) (length classes) 0
-      (λ k l h. let e = listed k (omega arith) in rw (e .0, e .1 .1)) in
+      (λ k l h. let e = three-listed k (omega arith) in rw (e .0, e .1 .1)) in
       rw (two-pass (length classes) (length others) (length marks) shape (length classes) refl) all
 
   pub three-second : markedVerdict otherLen others marks ≡ Accepted
@@ -116,5 +116,5 @@ module _ (len otherLen : ℕ) (classes others marks : List ℕ) (shape : judgeLe
   three-second =
       let n = second-is (length classes) (length others) (length marks) shape in
       let all = each-over (λ i. judgeMarked otherLen (cell others i) (cell marks i) i) (length others) 0
-      (λ k l h. let e = listed k (omega (arith, n)) in rw (e .1 .0, e .1 .1)) in
+      (λ k l h. let e = three-listed k (omega (arith, n)) in rw (e .1 .0, e .1 .1)) in
       rw (two-pass (length classes) (length others) (length marks) shape (length others) n) all

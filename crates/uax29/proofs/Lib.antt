@@ -1,6 +1,7 @@
 pub mod Blind
 pub mod EditionRules
 pub mod EditionLaws
+pub mod EditionTheorems
 pub mod ClustersSides
 pub mod GraphemeSummary
 pub mod GraphemeStanding

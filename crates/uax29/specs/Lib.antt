@@ -11,6 +11,7 @@ pub mod Conjunct
 pub mod Editions
 pub mod EditionRuns
 pub mod EditionStep
+pub mod EditionRefusals
 pub mod Conjoined
 pub mod Words
 pub mod WordsSeen
