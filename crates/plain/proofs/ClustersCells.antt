@@ -59,6 +59,10 @@ bit-one : (b : Bool) → eqb (cond b 1 0) 1 ≡ b
 bit-one true = refl
 bit-one false = refl
 
+is-one : (breaks marks : List ℕ) (i : ℕ) → eqb (startAt breaks marks i) 1 ≡ boundaryAt breaks marks i
+unfolding startAt
+is-one breaks marks i = bit-one (boundaryAt breaks marks i)
+
 -- "On plain texts (8.1) the records with 1 are where the simple parser's clusters start, in both of its modes": with a cell for each
 -- record, neither run refuses, and the cells that are 1 stand where the clusters start.
 pub graphemes-plain : (mode : Mode) (t : Text) (out : List ℕ) → verdict Simple t ≡ Accepted → isPlain mode t ≡ true → length (t .records .breaks) ≤ length out
@@ -69,5 +73,5 @@ graphemes-plain mode t out accepted plain long =
     let m : List ℕ = t .records .semojis in
     let said : graphemeVerdict b m (length out) ≡ Accepted = rw (columns-accepted t accepted, le-ltb (length out) (length b) long) in
     let same : (i : ℕ) → 0 ≤ i → i < 0 + length b → eqb (cell (graphemeCells b m out) i) 1 ≡ boundaryAt b m i =
-    λ i l h. ap (λ x. eqb x 1) (Written.record-cell (startAt b m) (length b) out (graphemeVerdict b m (length out)) i (omega arith) said ∙ (unfold startAt in refl)) ∙ bit-one (boundaryAt b m i) in
+    λ i l h. ap (λ x. eqb x 1) (Written.record-cell (startAt b m) (length b) out (graphemeVerdict b m (length out)) i (omega arith) said) ∙ is-one b m i in
     (said, places-same (λ i. eqb (cell (graphemeCells b m out) i) 1) (boundaryAt b m) (length b) 0 same ∙ sym (clusters-plain mode t accepted plain))
