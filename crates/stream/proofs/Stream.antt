@@ -18,7 +18,7 @@ use borrow.Author.Tests.{lt-ltb, le-ltb, eqb-true, eqb-false}
 use Rattle.records.specs.Text.{Parts, cell}
 use Rattle.records.proofs.Passing.{not-so}
 use Rattle.stream.specs.Stream.{Source, Splits, ownToken, itself, standsAlone, split, gather, givesNone, fetchIn, pieceCount, countFrom, Fills}
-use Rattle.stream.specs.Inner.{givesItself}
+use Rattle.stream.specs.Inner.{givesItself, rest}
 use Rattle.stream.proofs.Piece.{length-split, split-itself}
 
 -- the cells from j on hold what they held when they were lent
@@ -53,44 +53,40 @@ module _ (whole left out : List ℕ) (j room : ℕ) (q : length out ≡ room) (e
       (omega (arith, simp length-append at m, n), sym (take-at (take j out) left j n) ∙ ap (take j) e)
 
 module _ (gives : ℕ → List ℕ) (n : ℕ) where
-  -- the records' part that is left, from token k of record i on
-  unfoldable pub rest : ℕ → ℕ → List ℕ
-  rest i k = cond (ltb i n) (drop k (gives i) ++ gather gives (i + 1) (n - (i + 1))) []
-
-  rest-gather : (m i : ℕ) → n - i ≡ m → gather gives i m ≡ rest i 0
+  rest-gather : (m i : ℕ) → n - i ≡ m → gather gives i m ≡ rest gives n i 0
   unfolding gather rest
   rest-gather zero i e = rw (le-ltb i n (omega arith))
   rest-gather (suc m) i e =
       let f : n - (i + 1) ≡ m = omega arith in
       rw (lt-ltb i n (omega arith), f)
 
-  pub rest-all : gather gives 0 n ≡ rest 0 0
+  pub rest-all : gather gives 0 n ≡ rest gives n 0 0
   rest-all = rest-gather n 0 (sub-zero n)
 
-  pub rest-over : (i k : ℕ) → n ≤ i → rest i k ≡ []
+  pub rest-over : (i k : ℕ) → n ≤ i → rest gives n i k ≡ []
   unfolding rest
   rest-over i k h = rw (le-ltb i n h)
 
   -- a record passed whole
-  pub rest-next : (i k : ℕ) → i < n → length (gives i) ≤ k → rest i k ≡ rest (i + 1) 0
+  pub rest-next : (i k : ℕ) → i < n → length (gives i) ≤ k → rest gives n i k ≡ rest gives n (i + 1) 0
   unfolding rest
   rest-next i k h l = rw (lt-ltb i n h, drop-of-length-le (gives i) l) (rest-gather (n - (i + 1)) (i + 1) refl)
 
   -- a token taken
-  pub rest-here : (i k : ℕ) → i < n → k < length (gives i) → rest i k ≡ getD (gives i) k 0 ∷ rest i (k + 1)
+  pub rest-here : (i k : ℕ) → i < n → k < length (gives i) → rest gives n i k ≡ getD (gives i) k 0 ∷ rest gives n i (k + 1)
   unfolding rest
   rest-here i k h l = rw (lt-ltb i n h, drop-cons (gives i) k 0 l, add-one k)
 
   -- the array and the rest, one token on: a record that is one token, a token of a record
-  pub whole-more : (out : List ℕ) (i k j token : ℕ) → take j out ++ rest i k ≡ gather gives 0 n → i < n → j < length out → k ≡ 0 → gives i ≡ token ∷ [] → take (j + 1) (set out j token) ++ rest (i + 1) 0 ≡ gather gives 0 n
+  pub whole-more : (out : List ℕ) (i k j token : ℕ) → take j out ++ rest gives n i k ≡ gather gives 0 n → i < n → j < length out → k ≡ 0 → gives i ≡ token ∷ [] → take (j + 1) (set out j token) ++ rest gives n (i + 1) 0 ≡ gather gives 0 n
   whole-more out i k j token e h l z q =
       let m : length (gives i) ≡ 1 = ap length q in
-      let a : rest i 0 ≡ token ∷ rest (i + 1) 0 = rest-here i 0 h (omega arith) ∙ ap (λ t. t ∷ rest i 1) (ap (λ l. getD l 0 0) q) ∙ ap (λ r. token ∷ r) (rest-next i 1 h (omega arith)) in
-      rw (add-one j, take-suc-set out j token l, append-assoc) (ap (λ r. take j out ++ r) (sym a ∙ ap (rest i) (sym z)) ∙ e)
+      let a : rest gives n i 0 ≡ token ∷ rest gives n (i + 1) 0 = rest-here i 0 h (omega arith) ∙ ap (λ t. t ∷ rest gives n i 1) (ap (λ l. getD l 0 0) q) ∙ ap (λ r. token ∷ r) (rest-next i 1 h (omega arith)) in
+      rw (add-one j, take-suc-set out j token l, append-assoc) (ap (λ r. take j out ++ r) (sym a ∙ ap (rest gives n i) (sym z)) ∙ e)
 
-  pub part-more : (out : List ℕ) (i k j token : ℕ) → take j out ++ rest i k ≡ gather gives 0 n → i < n → j < length out → k < length (gives i) → token ≡ getD (gives i) k 0 → take (j + 1) (set out j token) ++ rest i (k + 1) ≡ gather gives 0 n
+  pub part-more : (out : List ℕ) (i k j token : ℕ) → take j out ++ rest gives n i k ≡ gather gives 0 n → i < n → j < length out → k < length (gives i) → token ≡ getD (gives i) k 0 → take (j + 1) (set out j token) ++ rest gives n i (k + 1) ≡ gather gives 0 n
   part-more out i k j token e h l m q =
-      rw (add-one j, take-suc-set out j token l, append-assoc) (ap (λ r. take j out ++ r) (sym (rest-here i k h m ∙ ap (λ t. t ∷ rest i (k + 1)) (sym q))) ∙ e)
+      rw (add-one j, take-suc-set out j token l, append-assoc) (ap (λ r. take j out ++ r) (sym (rest-here i k h m ∙ ap (λ t. t ∷ rest gives n i (k + 1)) (sym q))) ∙ e)
 
 -- one step of the fetch: a record that is passed over, one that gives a token, the end
 module _ (mode : Mode) (n : ℕ) (decomposes counts : List ℕ) (i x y : ℕ) (b : Bool) (ex : x ≡ cell decomposes i) (ey : y ≡ cell counts i) (eb : b ≡ givesNone mode x y) (h : i < n) where

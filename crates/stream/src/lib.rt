@@ -1,5 +1,6 @@
 // The token stream: `Tokens` of src/text/cluster/complex.rs, over the lent columns. For simple and Myanmar a token is a record.
 mod pieces;
+pub mod spots;
 
 use classes::Mode;
 use pieces::gives_itself;

@@ -1,6 +1,7 @@
+use Rattle.stream.specs.Inner.{rest}
 use Rattle.records.specs.Text.{textIn}
 use Rattle.stream.specs.Stream.{sourceOf, itself, gather}
-use Rattle.stream.proofs.Stream.{Kept, kept-all, kept-more, kept-is, rest, rest-all, fill-full, fill-over, fill-more}
+use Rattle.stream.proofs.Stream.{Kept, kept-all, kept-more, kept-is, rest-all, fill-full, fill-over, fill-more}
 use lib.ListN.{length, take, length-set}
 use Prim.Native.Nat.{_-_, _≤_}
 use mathlib.Core.Path.{_≡_, refl, sym, _∙_}
