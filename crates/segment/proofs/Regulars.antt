@@ -1,7 +1,7 @@
 -- Texts whose records are the tokens, and regular ones: what acceptance gives, and what is looked at. Assumes nothing.
 use Prim.Native.Nat.{ℕ, zero, suc, _<_, _≤_}
 use mathlib.Core.Path.{_≡_, refl, sym, _∙_, ap, subst}
-use mathlib.Core.Bool.{Bool, true, false, not, _||_}
+use mathlib.Core.Bool.{Bool, true, false, cond, not, _||_}
 use mathlib.Core.List.{List, [], _∷_}
 use native.Mathlib.Omega.{arith}
 use lib.Dec.{eqb, ltb}
@@ -9,19 +9,23 @@ use lib.ListN.{length, getD, List·getD-eq-default}
 use borrow.Author.Tests.{lt-ltb, eq-eqb, eqb-true, ltb-true, ltb-false}
 use Rattle.basics.proofs.Tests.{by-test}
 use Rattle.basics.specs.Sets.{any}
+use Rattle.classes.specs.Scalar.{LF}
+use Rattle.classes.specs.UseClass as UseClass
 use Rattle.classes.specs.declared.Mode.{Mode}
 use Rattle.token.proofs.Fields.{Says}
-use Rattle.records.specs.Text.{Text, Parts, cell, recordLengths}
+use Rattle.records.specs.Text.{Text, Parts, cell, recordLengths, partLengths}
+use Rattle.records.specs.Refusals.{isComplex}
 use Rattle.records.specs.Sound.{Sound}
 use Rattle.records.specs.declared.Parser.{Parser}
 use Rattle.records.specs.declared.Parser.the-variants.{Simple, Myanmar, Complex, Khmer}
 use Rattle.records.proofs.Passing.{not-so}
 use Rattle.stream.specs.Stream.{Source, Splits, sourceOf, splitsOf, itself, split, gather, streamOf}
-use Rattle.stream.proofs.Accepted.{small, own-says}
+use Rattle.stream.proofs.Accepted.{small, own-says, complex-says, part-says}
 use Rattle.stream.proofs.Stream.{same-gather}
 use Rattle.parse.specs.State.{tokenAt}
-use Rattle.tables.specs.Symbols.{Regular, simpleRegular, myanmarRegular, useRegular}
-use Rattle.segment.specs.Seen.{seenIn, seenBy, kindsOf, emojisOf, EvenBy, Direct, useParser, Single, AllMyanmar, AllUse}
+use Rattle.tables.specs.Symbols.{Regular, implies, isKhmerCoeng, simpleRegular, myanmarRegular, regularUse, useRegular}
+use Rattle.segment.specs.Seen.{seenIn, seenBy, kindsOf, emojisOf, EvenBy, Direct, useParser, Single, AllMyanmar, UseIn, PartsIn, SingleIn}
+use Rattle.segment.proofs.EachToken.{each-token}
 use Rattle.segment.proofs.Reading.{seen-length, token-own}
 
 -- columns of one length
@@ -41,6 +45,25 @@ same-as n m e = go (eqb n m) refl e
     go : (b : Bool) → eqb n m ≡ b → not b ≡ false → n ≡ m
     go true f g = eqb-true n m f
     go false f g = not-so (sym g)
+
+-- a token that says what regular cells say
+regular-says : (khmer : Bool) (token x kind brk category emoji selector index : ℕ) → Says token x kind brk category emoji selector index → kind < 37 → regularUse khmer x kind emoji ≡ true → useRegular khmer token ≡ true
+unfolding useRegular
+regular-says khmer token x kind brk category emoji selector index w h e = rw (w .its-kind, w .its-scalar, w .its-emoji, lt-ltb kind 37 h) e
+
+-- without its emoji mark a record stays regular
+unmarked : (khmer : Bool) (x kind emoji : ℕ) → regularUse khmer x kind emoji ≡ true → regularUse khmer x kind 0 ≡ true
+unfolding regularUse
+unmarked khmer x kind emoji e = go (eqb emoji 1) (eqb kind UseClass.O) (implies (isKhmerCoeng khmer x) (eqb kind UseClass.H)) (eqb x LF) (eqb emoji 0) e
+  where
+    go : (a o b l z : Bool) → cond (cond a o true) (cond b (cond l (cond o z false) true) false) false ≡ true → cond true (cond b (cond l (cond o true false) true) false) false ≡ true
+    go a o true false z e = refl
+    go a true true true z e = refl
+    go true false true true z e = not-so e
+    go false false true true z e = not-so e
+    go true true false l z e = not-so e
+    go true false false l z e = not-so e
+    go false o false l z e = not-so e
 
 module _ (parser : Parser) (t : Text) (s : Sound parser t) where
   long : (k : ℕ) → k < 14 → getD (recordLengths (t .records)) k 0 ≡ length (t .records .scalars)
@@ -69,6 +92,9 @@ module _ (parser : Parser) (t : Text) (s : Sound parser t) where
         (λ h. small (cell (t .records .scalars) k) (s .rows k (ltb-true k (length (t .records .scalars)) h) .scalar))
         (λ h. let z : cell (t .records .scalars) k ≡ 0 = List·getD-eq-default (t .records .scalars) 0 {n = k} (ltb-false k (length (t .records .scalars)) h) in omega arith);
   }
+
+  pub parts-long : length (t .parts .puses) ≡ length (t .parts .pscalars)
+  parts-long = same-as (length (t .parts .puses)) (length (t .parts .pscalars)) (each-false (λ n. not (eqb n (getD (partLengths (t .parts)) 0 0))) (partLengths (t .parts)) (s .even-parts) 2 (omega arith))
 
   pub marks-long : length (t .records .decomposes) ≡ length (t .records .scalars)
   marks-long = long 11 (omega arith)
@@ -110,23 +136,30 @@ module _ (parser : Parser) (t : Text) (s : Sound parser t) where
       let w = seen-says Myanmar i l in
       rw (w .its-kind, w .its-scalar, w .its-emoji, lt-ltb (cell (t .records .myanmars) i) 26 (s .rows i l .myanmar)) (a i l)
 
-  module _ (khmer : Bool) (a : AllUse khmer (t .records .scalars) (t .records .uses) (t .records .cemojis) (t .records .decomposes)) where
+  module _ (khmer : Bool) (a : UseIn khmer t) where
     use-seen : (i : ℕ) → i < length (seenBy Complex t) → useRegular khmer (tokenAt (seenBy Complex t) i) ≡ true
-    unfolding useRegular
     use-seen i h =
         let l = inside Complex i h in
-        let w = seen-says Complex i l in
-        rw (w .its-kind, w .its-scalar, w .its-emoji, lt-ltb (cell (t .records .uses) i) 37 (s .rows i l .uses)) (a i l .regular)
+        regular-says khmer _ _ _ _ _ _ _ _ (seen-says Complex i l) (s .rows i l .uses) (a i l)
 
-  regular-use : (khmer : Bool) → AllUse khmer (t .records .scalars) (t .records .uses) (t .records .cemojis) (t .records .decomposes) → Regular (useParser khmer) (seenBy (useParser khmer) t)
+  regular-use : (khmer : Bool) → UseIn khmer t → Regular (useParser khmer) (seenBy (useParser khmer) t)
   regular-use true a = use-seen true a
   regular-use false a = use-seen false a
 
+  -- the tokens of split records: a record with its mark and without it, and a part
+  module _ (khmer : Bool) (mode : Mode) (c : isComplex parser ≡ true) (a : PartsIn khmer t × UseIn khmer t) where
+    pub split-regular : (i : ℕ) → i < length (streamOf mode parser t) → useRegular khmer (tokenAt (streamOf mode parser t) i) ≡ true
+    split-regular =
+        each-token mode parser t c s (λ token. useRegular khmer token ≡ true)
+        (λ i h. regular-says khmer _ _ _ _ _ _ _ _ (complex-says parser t s i h (cell (t .records .cemojis) i) (s .rows i h .cemoji)) (s .rows i h .uses) (a .1 i h))
+        (λ i h. regular-says khmer _ _ _ _ _ _ _ _ (complex-says parser t s i h 0 (omega arith)) (s .rows i h .uses) (unmarked khmer (cell (t .records .scalars) i) (cell (t .records .uses) i) (cell (t .records .cemojis) i) (a .1 i h)))
+        (λ i h j l. regular-says khmer _ _ _ _ _ _ _ _ (part-says parser t s i h j l) (s .parts j l .uses) (a .0 j l))
+
 -- the stream is what is seen
 
-split-single : (mode : Mode) (khmer : Bool) (s : Source) (d : Splits) (p : Parts) (i k e : ℕ) → Single khmer (cell (s .scalars) i) k e (cell (d .decomposes) i) → split mode khmer s d p i ≡ itself s i
+pub split-single : (mode : Mode) (khmer : Bool) (s : Source) (d : Splits) (p : Parts) (i : ℕ) → Single khmer (cell (s .scalars) i) (cell (d .decomposes) i) → split mode khmer s d p i ≡ itself s i
 unfolding split
-split-single mode khmer s d p i k e w = rw (w .marked, w .sign) refl
+split-single mode khmer s d p i w = rw (w .marked, w .sign) refl
 
 module _ (mode : Mode) (t : Text) where
   stream-simple : streamOf mode Simple t ≡ seenBy Simple t
@@ -137,14 +170,22 @@ module _ (mode : Mode) (t : Text) where
   unfolding streamOf seenIn
   stream-myanmar = refl
 
-  gathered-use : (khmer : Bool) → AllUse khmer (t .records .scalars) (t .records .uses) (t .records .cemojis) (t .records .decomposes) → gather (split mode khmer (sourceOf (t .records) (t .records .uses) (t .records .cemojis)) (splitsOf (t .records)) (t .parts)) 0 (length (t .records .scalars)) ≡ seenBy Complex t
+  gathered-use : (khmer : Bool) → SingleIn khmer t → gather (split mode khmer (sourceOf (t .records) (t .records .uses) (t .records .cemojis)) (splitsOf (t .records)) (t .parts)) 0 (length (t .records .scalars)) ≡ seenBy Complex t
   unfolding seenIn
-  gathered-use khmer a = same-gather _ _ (length (t .records .scalars)) 0 (λ k l h. split-single mode khmer (sourceOf (t .records) (t .records .uses) (t .records .cemojis)) (splitsOf (t .records)) (t .parts) k (cell (t .records .uses) k) (cell (t .records .cemojis) k) (a k (omega arith)))
+  gathered-use khmer a = same-gather _ _ (length (t .records .scalars)) 0 (λ k l h. split-single mode khmer (sourceOf (t .records) (t .records .uses) (t .records .cemojis)) (splitsOf (t .records)) (t .parts) k (a k (omega arith)))
 
-  stream-use : (khmer : Bool) → AllUse khmer (t .records .scalars) (t .records .uses) (t .records .cemojis) (t .records .decomposes) → streamOf mode (useParser khmer) t ≡ seenBy (useParser khmer) t
+  stream-use : (khmer : Bool) → SingleIn khmer t → streamOf mode (useParser khmer) t ≡ seenBy (useParser khmer) t
   unfolding streamOf
   stream-use true a = gathered-use true a
   stream-use false a = gathered-use false a
+
+pub regular-tokens : (khmer : Bool) (text : List ℕ) → ((k : ℕ) → k < length text → useRegular khmer (tokenAt text k) ≡ true) → Regular (useParser khmer) text
+regular-tokens true text f = f
+regular-tokens false text f = f
+
+complex-use : (khmer : Bool) → isComplex (useParser khmer) ≡ true
+complex-use true = refl
+complex-use false = refl
 
 module _ (mode : Mode) (parser : Parser) (t : Text) (s : Sound parser t) where
   pub direct-simple : parser ≡ Simple → Direct mode parser t
@@ -153,15 +194,16 @@ module _ (mode : Mode) (parser : Parser) (t : Text) (s : Sound parser t) where
   pub direct-myanmar : parser ≡ Myanmar → AllMyanmar (t .records .scalars) (t .records .myanmars) (t .records .memojis) → Direct mode parser t
   direct-myanmar e a = subst (λ p. Direct mode p t) (sym e) (record { same = stream-myanmar mode t; regular = regular-myanmar parser t s a })
 
-  pub direct-use : (khmer : Bool) → parser ≡ useParser khmer → AllUse khmer (t .records .scalars) (t .records .uses) (t .records .cemojis) (t .records .decomposes) → Direct mode parser t
-  direct-use khmer e a = subst (λ p. Direct mode p t) (sym e) (record { same = stream-use mode t khmer a; regular = regular-use parser t s khmer a })
+  pub direct-use : (khmer : Bool) → parser ≡ useParser khmer → SingleIn khmer t × UseIn khmer t → Direct mode parser t
+  direct-use khmer e a = subst (λ p. Direct mode p t) (sym e) (record { same = stream-use mode t khmer (a .0); regular = regular-use parser t s khmer (a .1) })
+
+  pub parted-use : (khmer : Bool) → parser ≡ useParser khmer → PartsIn khmer t × UseIn khmer t → Regular parser (streamOf mode parser t)
+  parted-use khmer e a =
+      let f = split-regular parser t s khmer mode (ap isComplex e ∙ complex-use khmer) a in
+      subst (λ p. Regular p (streamOf mode parser t)) (sym e) (regular-tokens khmer (streamOf mode parser t) f)
 
   pub direct-length : Direct mode parser t → length (t .records .scalars) ≡ length (streamOf mode parser t)
   direct-length d = sym (ap length (d .same) ∙ seen-length (t .records .scalars) (kindsOf parser t) (t .records .breaks) (t .records .categories) (emojisOf parser t) (t .records .selectors))
-
-pub regular-tokens : (khmer : Bool) (text : List ℕ) → ((k : ℕ) → k < length text → useRegular khmer (tokenAt text k) ≡ true) → Regular (useParser khmer) text
-regular-tokens true text f = f
-regular-tokens false text f = f
 
 -- a pass over all records
 pub each-all : (P : ℕ → Type 0) (n i p : ℕ) → (p ≡ 0 → (k : ℕ) → k < i → P k) → n ≤ i → p ≡ 0 → (k : ℕ) → k < n → P k

@@ -33,7 +33,7 @@ ghost use Rattle.segment.specs.Seen.{seenIn, useParser, Even, kinziIn, e
 ghost use Rattle.segment.specs.Standing.{Ready, ReachedIn};
 
 // Record i as a token. It is packed in a register and taken apart at once: the compiler leaves of both what is asked for.
-fn token_at(
+pub(crate) fn token_at(
     scalars: &[u32],
     kinds: &[u8],
     breaks: &[u8],

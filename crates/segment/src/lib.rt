@@ -2,6 +2,7 @@
 mod calls;
 mod direct;
 mod going;
+mod parted;
 mod regular;
 mod runs;
 mod streams;

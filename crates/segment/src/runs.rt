@@ -3,7 +3,9 @@ use crate::RunAnswer;
 use crate::calls::call;
 use crate::direct::direct;
 use crate::going::Stand;
+use crate::parted::parted;
 use crate::regular::is_direct;
+use crate::regular::is_parted;
 use crate::streams::MIDDLE;
 use crate::streams::SHORT;
 use crate::streams::count_of;
@@ -28,11 +30,13 @@ ghost use Rattle.stream.specs.Stream.{streamOf, mostTokens};
 ghost use Rattle.segment.specs.Inner.{Fits};
 ghost use Rattle.segment.specs.Standing.{Written, Known, Ample, Begun, Stands, Finished, Rests, FinishedIn, RanWhole, RanIn};
 
-// What a run works on: its parser and mode, whether the records are the tokens and regular, and how many tokens there are.
+// What a run works on: its parser and mode, whether the records are the tokens and regular, whether they are split into regular ones, and
+// how many tokens there are.
 pub(crate) struct Task {
     pub parser: Parser,
     pub mode: Mode,
     pub direct: bool,
+    pub parted: bool,
     pub tokens: usize,
 }
 
@@ -286,6 +290,37 @@ fn begin<'s, 'a>(
             oclusters,
         );
     }
+    begin_parted(task, wides, bytes, firsts, oscalars, oclasses, oclusters)
+}
+
+fn begin_parted<'s, 'a>(
+    task: Task,
+    wides: &'s [&'a [u32]; 2],
+    bytes: &'s [&'a [u8]; 15],
+    firsts: &'a [u16],
+    oscalars: &mut [u32],
+    oclasses: &mut [u8],
+    oclusters: &mut [u16],
+) -> Stand
+    requires { ⌜ Ample task (lent wides bytes firsts) oscalars oclasses oclusters ⌝ }
+    ensures { λ r. ⌜ Begun task (lent (wides .entry) (bytes .entry) (firsts .entry)) oscalars oclasses oclusters r ⌝ }
+{
+    if task.parted {
+        let parser = task.parser;
+        let mode = task.mode;
+        let tokens = task.tokens;
+        return parted(
+            parser,
+            mode,
+            tokens,
+            wides,
+            bytes,
+            firsts,
+            oscalars,
+            oclasses,
+            oclusters,
+        );
+    }
     Stand::START
 }
 
@@ -334,6 +369,7 @@ pub(crate) fn run_accepted<'s, 'a>(
     ensures { λ r. ⌜ RanIn parser mode (lent (wides .entry) (bytes .entry) (firsts .entry)) oscalars oclasses oclusters r ⌝ }
 {
     let direct = is_direct(parser, mode, wides, bytes, firsts);
+    let parted = is_parted(direct, parser, mode, wides, bytes, firsts);
     let tokens = token_count(direct, parser, mode, wides, bytes, firsts);
     let room = shorter(oscalars.len(), shorter(oclasses.len(), oclusters.len()));
     if room < 2 * tokens {
@@ -347,6 +383,7 @@ pub(crate) fn run_accepted<'s, 'a>(
         parser,
         mode,
         direct,
+        parted,
         tokens,
     };
     run_roomy(task, wides, bytes, firsts, oscalars, oclasses, oclusters)

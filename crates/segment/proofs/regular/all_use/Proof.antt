@@ -1,22 +1,23 @@
 use Prim.Native.Nat.{ℕ, _-_, _<_}
 use mathlib.Core.Path.{_≡_}
+use mathlib.Core.Bool.{true}
 use lib.ListN.{length}
 use Rattle.records.specs.Text.{cell}
 use Rattle.records.proofs.Passing.{joined-more}
+use Rattle.tables.specs.Symbols.{regularUse}
+use Rattle.segment.specs.Seen.{Single}
 use Rattle.segment.proofs.Regulars.{each-all}
 use borrow.Author.Tests.{eqb-true}
 use native.Mathlib.Omega.{arith}
-use Rattle.segment.specs.Seen.{Single}
 use borrow.Author.Needs.{needs}
 use Rattle.segment.proofs.regular.all_use.Statement.{statement}
 use Rattle.segment.proofs.regular.all_use.Tie as tie
 
 abbrev Inv-loop : tie.InvT-loop
-Inv-loop khmer scalars kinds emojis decomposes odd₀ i₀ odd i =
-    odd ≡ 0 → (k : ℕ) → k < i → Single khmer (cell scalars k) (cell kinds k) (cell emojis k) (cell decomposes k)
+Inv-loop khmer scalars kinds emojis odd₀ i₀ odd i = odd ≡ 0 → (k : ℕ) → k < i → regularUse khmer (cell scalars k) (cell kinds k) (cell emojis k) ≡ true
 
 abbrev μ-loop : tie.MeasureT-loop
-μ-loop khmer scalars kinds emojis decomposes odd₀ i₀ odd i = length scalars - i
+μ-loop khmer scalars kinds emojis odd₀ i₀ odd i = length scalars - i
 
 loop-holds : tie.Need-loop-holds Inv-loop μ-loop
 loop-holds c = λ e k h. absurd (omega arith)
@@ -33,9 +34,6 @@ shared-slice-read-odd-use-2 c = search needs
 shared-slice-read-odd-use-3 : tie.Need-shared-slice-read-odd-use-3 Inv-loop μ-loop
 shared-slice-read-odd-use-3 c = search needs
 
-shared-slice-read-odd-use-4 : tie.Need-shared-slice-read-odd-use-4 Inv-loop μ-loop
-shared-slice-read-odd-use-4 c = search needs
-
 odd-use-requires : tie.Need-odd-use-requires Inv-loop μ-loop
 odd-use-requires c κs = search needs
 
@@ -49,7 +47,7 @@ loop-less : tie.Need-loop-less Inv-loop μ-loop
 loop-less c = search needs
 
 loop-again : tie.Need-loop-again Inv-loop μ-loop
-loop-again c = joined-more _ _ _ _ _ (c .before .before .before .before .before .before .before .loop .inv) (c .before .odd-use .ensures) (c .joined .ensures)
+loop-again c = joined-more _ _ _ _ _ (c .before .before .before .before .before .before .loop .inv) (c .before .odd-use .ensures) (c .joined .ensures)
 
 returns : tie.Need-returns Inv-loop μ-loop
 returns c = λ e. each-all _ _ _ _ (c .before .loop .inv) (c .loop-test .left) (eqb-true _ _ e)
@@ -65,7 +63,6 @@ all-use-spec =
     shared-slice-read-odd-use
     shared-slice-read-odd-use-2
     shared-slice-read-odd-use-3
-    shared-slice-read-odd-use-4
     odd-use-requires
     joined-requires
     add-i

@@ -1,5 +1,5 @@
-use Rattle.segment.proofs.Regulars.{even, marks-long, direct-simple, direct-myanmar, direct-use}
-use Rattle.records.specs.declared.Parser.the-variants.{Myanmar, Complex}
+use Rattle.segment.proofs.Regulars.{even, direct-simple, direct-myanmar, direct-use}
+use Rattle.records.specs.declared.Parser.the-variants.{Myanmar}
 use Rattle.records.specs.Text.{textIn}
 use mathlib.Core.Bool.{true, false}
 use borrow.Author.Needs.{needs}
@@ -28,40 +28,14 @@ all-myanmar-requires c κs = ((even _ (textIn (c .before .before .before .before
 enum-told-3 : tie.Need-enum-told-3
 enum-told-3 c = search needs
 
-element-copy-out-all-use : tie.Need-element-copy-out-all-use
-element-copy-out-all-use c = search needs
-
-element-copy-out-all-use-2 : tie.Need-element-copy-out-all-use-2
-element-copy-out-all-use-2 c = search needs
-
-element-copy-out-all-use-3 : tie.Need-element-copy-out-all-use-3
-element-copy-out-all-use-3 c = search needs
-
-element-copy-out-all-use-4 : tie.Need-element-copy-out-all-use-4
-element-copy-out-all-use-4 c = search needs
-
-all-use-requires : tie.Need-all-use-requires
-unfolding textIn
-all-use-requires c κs = ((even _ (textIn (c .before .before .before .before .before .before .before .args .wides .now) (c .before .before .before .before .before .before .before .args .bytes .now) (c .before .before .before .before .before .before .before .args .firsts .now)) (c .before .before .before .before .before .before .before .pre) Complex) .kind, ((even _ (textIn (c .before .before .before .before .before .before .before .args .wides .now) (c .before .before .before .before .before .before .before .args .bytes .now) (c .before .before .before .before .before .before .before .args .firsts .now)) (c .before .before .before .before .before .before .before .pre) Complex) .emoji, marks-long _ (textIn (c .before .before .before .before .before .before .before .args .wides .now) (c .before .before .before .before .before .before .before .args .bytes .now) (c .before .before .before .before .before .before .before .args .firsts .now)) (c .before .before .before .before .before .before .before .pre)))
+use-direct-requires : tie.Need-use-direct-requires
+use-direct-requires c κs = search needs
 
 enum-told-4 : tie.Need-enum-told-4
 enum-told-4 c = search needs
 
-element-copy-out-all-use-5 : tie.Need-element-copy-out-all-use-5
-element-copy-out-all-use-5 c = search needs
-
-element-copy-out-all-use-6 : tie.Need-element-copy-out-all-use-6
-element-copy-out-all-use-6 c = search needs
-
-element-copy-out-all-use-7 : tie.Need-element-copy-out-all-use-7
-element-copy-out-all-use-7 c = search needs
-
-element-copy-out-all-use-8 : tie.Need-element-copy-out-all-use-8
-element-copy-out-all-use-8 c = search needs
-
-all-use-requires-2 : tie.Need-all-use-requires-2
-unfolding textIn
-all-use-requires-2 c κs = ((even _ (textIn (c .before .before .before .before .before .before .before .args .wides .now) (c .before .before .before .before .before .before .before .args .bytes .now) (c .before .before .before .before .before .before .before .args .firsts .now)) (c .before .before .before .before .before .before .before .pre) Complex) .kind, ((even _ (textIn (c .before .before .before .before .before .before .before .args .wides .now) (c .before .before .before .before .before .before .before .args .bytes .now) (c .before .before .before .before .before .before .before .args .firsts .now)) (c .before .before .before .before .before .before .before .pre) Complex) .emoji, marks-long _ (textIn (c .before .before .before .before .before .before .before .args .wides .now) (c .before .before .before .before .before .before .before .args .bytes .now) (c .before .before .before .before .before .before .before .args .firsts .now)) (c .before .before .before .before .before .before .before .pre)))
+use-direct-requires-2 : tie.Need-use-direct-requires-2
+use-direct-requires-2 c κs = search needs
 
 returns : tie.Need-returns
 returns c = λ e. direct-simple _ _ (textIn (c .before .before .before .args .wides .now) (c .before .before .before .args .bytes .now) (c .before .before .before .args .firsts .now)) (c .before .before .before .pre) (c .enum-told .given .1)
@@ -72,11 +46,11 @@ returns-2 c = λ e. direct-myanmar _ _ (textIn (c .before .before .before .befor
 
 returns-3 : tie.Need-returns-3
 unfolding textIn
-returns-3 c = λ e. direct-use _ _ (textIn (c .before .before .before .before .before .before .before .before .args .wides .now) (c .before .before .before .before .before .before .before .before .args .bytes .now) (c .before .before .before .before .before .before .before .before .args .firsts .now)) (c .before .before .before .before .before .before .before .before .pre) false (c .before .before .before .before .before .enum-told3 .given .1) (c .all-use .ensures e)
+returns-3 c = λ e. direct-use _ _ (textIn (c .before .before .before .before .args .wides .now) (c .before .before .before .before .args .bytes .now) (c .before .before .before .before .args .firsts .now)) (c .before .before .before .before .pre) false (c .before .enum-told3 .given .1) (c .use-direct .ensures e)
 
 returns-4 : tie.Need-returns-4
 unfolding textIn
-returns-4 c = λ e. direct-use _ _ (textIn (c .before .before .before .before .before .before .before .before .args .wides .now) (c .before .before .before .before .before .before .before .before .args .bytes .now) (c .before .before .before .before .before .before .before .before .args .firsts .now)) (c .before .before .before .before .before .before .before .before .pre) true (c .before .before .before .before .before .enum-told4 .given .1) (c .all-use2 .ensures e)
+returns-4 c = λ e. direct-use _ _ (textIn (c .before .before .before .before .args .wides .now) (c .before .before .before .before .args .bytes .now) (c .before .before .before .before .args .firsts .now)) (c .before .before .before .before .pre) true (c .before .enum-told4 .given .1) (c .use-direct2 .ensures e)
 
 pub is-direct-spec : {M : Type 1} → statement M
 is-direct-spec =
@@ -89,17 +63,9 @@ is-direct-spec =
     element-copy-out-all-myanmar-3
     all-myanmar-requires
     enum-told-3
-    element-copy-out-all-use
-    element-copy-out-all-use-2
-    element-copy-out-all-use-3
-    element-copy-out-all-use-4
-    all-use-requires
+    use-direct-requires
     enum-told-4
-    element-copy-out-all-use-5
-    element-copy-out-all-use-6
-    element-copy-out-all-use-7
-    element-copy-out-all-use-8
-    all-use-requires-2
+    use-direct-requires-2
     returns
     returns-2
     returns-3
