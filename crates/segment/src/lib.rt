@@ -8,6 +8,7 @@ mod runs;
 mod streams;
 mod tabled;
 
+pub use calls::call;
 use classes::Mode;
 use parse::Cluster;
 use parse::Place;
@@ -16,6 +17,8 @@ use records::Refusal;
 use records::Verdict;
 use records::check_in;
 use runs::run_accepted;
+pub use streams::count_of;
+pub use streams::tokens_of;
 ghost use mathlib.Core.Path.{_≡_};
 ghost use Rattle.records.specs.Text.{textOf, lent};
 ghost use Rattle.parse.specs.State.{startPlace};
