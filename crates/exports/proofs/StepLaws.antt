@@ -118,7 +118,7 @@ step-fits n m place cells t a scalars classes records noted ec ea =
 
 pub laid-more : (f : Pushed → ℕ) (j v : ℕ) (cs : List Pushed) (l₀ l : List ℕ) → j < length cs → v ≡ f (getD cs j nothing) → Cells f 0 cs l₀ l j → Cells f 0 cs l₀ (set l j v) (j + 1)
 laid-more f j v cs l₀ l h e c =
-    subst (λ (k : ℕ). Cells f 0 cs l₀ (set l k v) (j + 1)) (zero-add j) (cells-more f 0 j v cs l₀ l h e c)
+    subst (λ (k : ℕ). Cells f 0 cs l₀ (set l k v) (j + 1)) (zero-add j) (cells-more nothing f 0 j v cs l₀ l h e c)
 
 pub laid-all : (f : Pushed → ℕ) (j : ℕ) (c : Cluster) (l₀ l : List ℕ) → j ≤ c .len → c .len ≤ j → c .len ≤ length (c .chars) → c .len ≤ length l₀ → Cells f 0 (c .chars) l₀ l j → l ≡ laid f c l₀
 unfolding laid

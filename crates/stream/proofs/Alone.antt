@@ -10,7 +10,6 @@ use native.Mathlib.Omega.{arith}
 use lib.Dec.{eqb}
 use lib.ListN.{length, getD, length-append, List·getD-append}
 use lib.Seq.{getD-append-add}
-use borrow.Author.Tests.{eqb-false}
 use Rattle.basics.proofs.Tests.{by-test}
 use Rattle.basics.specs.Sets.{member}
 use Rattle.classes.specs.Scalar.{khmerSigns}
@@ -23,7 +22,7 @@ use Rattle.records.specs.Refusals.{isComplex}
 use Rattle.records.specs.declared.Parser.{Parser}
 use Rattle.records.specs.declared.Parser.the-variants.{Simple, Myanmar, Complex, Khmer}
 use Rattle.records.proofs.Passing.{not-so}
-use Rattle.stream.specs.Stream.{Source, Splits, sourceOf, splitsOf, ownToken, partToken, partTokens, itself, split, gather, givesNone, streamOf}
+use Rattle.stream.specs.Stream.{Source, Splits, sourceOf, splitsOf, ownToken, partToken, partTokens, itself, split, gather, standsAlone, gives, givesNone, streamOf}
 use Rattle.stream.proofs.Piece.{length-split}
 use Rattle.stream.proofs.Stream.{none-counted, some-counted, same-gather}
 
@@ -48,10 +47,39 @@ whole-gives decompose count = go (eqb decompose 1) (eqb count 0)
     go true false = refl
     go false b = refl
 
-first-part : (p : Parts) (i j n : ℕ) → i < 4096 → 0 < n → indexOf (getD (partTokens p i j n) 0 0) ≡ i
+-- # The tokens of one record have its index
+
+one-index : (x i k : ℕ) → indexOf x ≡ i → k < 1 → indexOf (getD (x ∷ []) k 0) ≡ i
+one-index x i zero e l = e
+one-index x i (suc k) e l = absurd (omega arith)
+
+part-index : (p : Parts) (i j n k : ℕ) → i < 4096 → k < length (partTokens p i j n) → indexOf (getD (partTokens p i j n) k 0) ≡ i
 unfolding partTokens
-first-part p i j zero h l = absurd (omega arith)
-first-part p i j (suc n) h l = index-packed _ _ _ _ 0 0 i h
+part-index p i j zero k h l = absurd (omega arith)
+part-index p i j (suc n) zero h l = index-packed _ _ _ _ 0 0 i h
+part-index p i j (suc n) (suc k) h l = part-index p i (j + 1) n k h (omega arith)
+
+own-index : (s : Source) (i k : ℕ) → i < 4096 → k < length (itself s i) → indexOf (getD (itself s i) k 0) ≡ i
+unfolding itself
+own-index s i k h l = one-index _ i k (index-packed _ _ _ _ _ _ i h) l
+
+split-index : (mode : Mode) (khmer : Bool) (s : Source) (d : Splits) (p : Parts) (i k : ℕ) → i < 4096 → k < length (split mode khmer s d p i) → indexOf (getD (split mode khmer s d p i) k 0) ≡ i
+unfolding split
+split-index mode khmer s d p i k h = go (eqb (cell (d .decomposes) i) 1) (standsAlone mode (cell (d .counts) i)) (khmer && member khmerSigns (cell (s .scalars) i)) k
+  where
+    go : (a b c : Bool) (k : ℕ) → k < length (cond a (cond b (itself s i) (partTokens p i (cell (d .firsts) i) (cell (d .counts) i))) (cond c (partToken p (cell (d .firsts) i) i ∷ ownToken s 0 i ∷ []) (itself s i))) →
+        indexOf (getD (cond a (cond b (itself s i) (partTokens p i (cell (d .firsts) i) (cell (d .counts) i))) (cond c (partToken p (cell (d .firsts) i) i ∷ ownToken s 0 i ∷ []) (itself s i))) k 0) ≡ i
+    go true true c k l = own-index s i k h l
+    go true false c k l = part-index p i (cell (d .firsts) i) (cell (d .counts) i) k h l
+    go false b true zero l = index-packed _ _ _ _ 0 0 i h
+    go false b true (suc k) l = one-index _ i k (index-packed _ _ _ _ 0 _ i h) (omega arith)
+    go false b false k l = own-index s i k h l
+
+pub given-index : (mode : Mode) (parser : Parser) (t : Text) (i k : ℕ) → i < 4096 → k < length (gives mode parser t i) → indexOf (getD (gives mode parser t i) k 0) ≡ i
+given-index mode Simple t i k h = own-index (sourceOf (t .records) (t .records .breaks) (t .records .semojis)) i k h
+given-index mode Myanmar t i k h = own-index (sourceOf (t .records) (t .records .myanmars) (t .records .memojis)) i k h
+given-index mode Complex t i k h = split-index mode false (sourceOf (t .records) (t .records .uses) (t .records .cemojis)) (splitsOf (t .records)) (t .parts) i k h
+given-index mode Khmer t i k h = split-index mode true (sourceOf (t .records) (t .records .uses) (t .records .cemojis)) (splitsOf (t .records)) (t .parts) i k h
 
 module _ (khmer : Bool) (s : Source) (d : Splits) (p : Parts) (i : ℕ) where
   pub some-given : 0 < length (split Whole khmer s d p i)
@@ -61,16 +89,15 @@ module _ (khmer : Bool) (s : Source) (d : Splits) (p : Parts) (i : ℕ) where
     some-counted Whole khmer (cell (d .decomposes) i) (cell (s .scalars) i) (cell (d .counts) i) (whole-gives (cell (d .decomposes) i) (cell (d .counts) i)),
   )
 
-  -- the first of its tokens is of record i
-  pub first-index : i < 4096 → indexOf (getD (split Whole khmer s d p i) 0 0) ≡ i
-  unfolding split itself
-  first-index h = go (eqb (cell (d .decomposes) i) 1) (eqb (cell (d .counts) i) 0) (khmer && member khmerSigns (cell (s .scalars) i)) refl
-    where
-      go : (a b c : Bool) → eqb (cell (d .counts) i) 0 ≡ b → indexOf (getD (cond a (cond b (itself s i) (partTokens p i (cell (d .firsts) i) (cell (d .counts) i))) (cond c (partToken p (cell (d .firsts) i) i ∷ ownToken s 0 i ∷ []) (itself s i))) 0 0) ≡ i
-      go true true c e = index-packed _ _ _ _ _ _ i h
-      go true false c e = first-part p i (cell (d .firsts) i) (cell (d .counts) i) h (omega (arith, eqb-false (cell (d .counts) i) 0 e))
-      go false b true e = index-packed _ _ _ _ 0 0 i h
-      go false b false e = index-packed _ _ _ _ _ _ i h
+pub gives-some : (mode : Mode) (parser : Parser) (t : Text) (i : ℕ) → mode ≡ Whole → 0 < length (gives mode parser t i)
+unfolding itself
+gives-some mode parser t i w = rw w (go parser)
+  where
+    go : (parser : Parser) → 0 < length (gives Whole parser t i)
+    go Simple = omega arith
+    go Myanmar = omega arith
+    go Complex = some-given false (sourceOf (t .records) (t .records .uses) (t .records .cemojis)) (splitsOf (t .records)) (t .parts) i
+    go Khmer = some-given true (sourceOf (t .records) (t .records .uses) (t .records .cemojis)) (splitsOf (t .records)) (t .parts) i
 
 -- where the tokens of record j begin
 gather-place : (f : ℕ → List ℕ) (n i j : ℕ) → i ≤ j → j < i + n → 0 < length (f j) → (k : ℕ) × ((k < length (gather f i n)) × (getD (gather f i n) k 0 ≡ getD (f j) 0 0))
@@ -85,20 +112,11 @@ gather-place f (suc n) i j l h s =
 -- "every record index appears": in whole mode each record of a text of 4,096 at most has a token, whatever the parser
 pub record-token : (mode : Mode) (parser : Parser) (t : Text) → mode ≡ Whole → length (t .records .scalars) ≤ 4096 → (i : ℕ) → i < length (t .records .scalars) →
     (k : ℕ) × ((k < length (streamOf mode parser t)) × (indexOf (getD (streamOf mode parser t) k 0) ≡ i))
-unfolding streamOf itself
-record-token mode parser t w few i h = rw w (go parser)
-  where
-    placed : (f : ℕ → List ℕ) → 0 < length (f i) → indexOf (getD (f i) 0 0) ≡ i → (k : ℕ) × ((k < length (gather f 0 (length (t .records .scalars)))) × (indexOf (getD (gather f 0 (length (t .records .scalars))) k 0) ≡ i))
-    placed f some its = let (k, (a, b)) = gather-place f (length (t .records .scalars)) 0 i (omega arith) (omega arith) some in (k, (a, ap indexOf b ∙ its))
-
-    own : (s : Source) → (k : ℕ) × ((k < length (gather (itself s) 0 (length (t .records .scalars)))) × (indexOf (getD (gather (itself s) 0 (length (t .records .scalars))) k 0) ≡ i))
-    own s = placed (itself s) (omega arith) (index-packed _ _ _ _ _ _ i (omega arith))
-
-    go : (parser : Parser) → (k : ℕ) × ((k < length (streamOf Whole parser t)) × (indexOf (getD (streamOf Whole parser t) k 0) ≡ i))
-    go Simple = own (sourceOf (t .records) (t .records .breaks) (t .records .semojis))
-    go Myanmar = own (sourceOf (t .records) (t .records .myanmars) (t .records .memojis))
-    go Complex = placed _ (some-given false (sourceOf (t .records) (t .records .uses) (t .records .cemojis)) (splitsOf (t .records)) (t .parts) i) (first-index false (sourceOf (t .records) (t .records .uses) (t .records .cemojis)) (splitsOf (t .records)) (t .parts) i (omega arith))
-    go Khmer = placed _ (some-given true (sourceOf (t .records) (t .records .uses) (t .records .cemojis)) (splitsOf (t .records)) (t .parts) i) (first-index true (sourceOf (t .records) (t .records .uses) (t .records .cemojis)) (splitsOf (t .records)) (t .parts) i (omega arith))
+unfolding streamOf
+record-token mode parser t w few i h =
+    let some : 0 < length (gives mode parser t i) = gives-some mode parser t i w in
+    let (k, (a, b)) = gather-place (gives mode parser t) (length (t .records .scalars)) 0 i (omega arith) (omega arith) some in
+    (k, (a, ap indexOf b ∙ given-index mode parser t i 0 (omega arith) some))
 
 -- # Where the modes see the same tokens
 
