@@ -1,14 +1,18 @@
 -- What is said of all spans together: that they "join without gap or overlap and cover the text" (SCOPE 12.7).
-use Prim.Native.Nat.{ℕ, zero, suc, _+_, _<_}
+use Prim.Native.Nat.{ℕ, zero, suc, _+_, _-_, _<_}
 use mathlib.Core.Path.{_≡_}
 use mathlib.Core.Bool.{cond}
 use mathlib.Core.List.{List, [], _∷_, _++_}
 use mathlib.Core.Logic.{_⊎_}
 use lib.Dec.{eqb}
 use lib.ListN.{length, take}
+use Rattle.classes.specs.declared.Mode.{Mode}
 use Rattle.records.specs.Text.{Text}
+use Rattle.records.specs.declared.Parser.{Parser}
+use Rattle.parse.specs.declared.Cluster.{Cluster}
 use Rattle.segment.specs.declared.Segmenter.{Segmenter}
 use Rattle.segment.specs.declared.What.{What}
+use Rattle.segment.specs.Repeats.{repeated}
 use Rattle.segment.specs.declared.What.the-variants.{Found, Over, Refused}
 use Rattle.spans.specs.declared.Span.{Span}
 use Rattle.spans.specs.declared.SpanAnswer.{SpanAnswer}
@@ -53,6 +57,26 @@ characterStretches (a ∷ later) = stretches (take (a .answer .cluster .len) (a 
 unfoldable pub clusterStretches : List SpanAnswer → List Stretch
 clusterStretches [] = []
 clusterStretches (a ∷ later) = record { from = a .spans .start; to = a .spans .end } ∷ clusterStretches later
+
+-- the same of the characters "once the repeats are struck out" (SCOPE 12.7), of answers the first of which began at a place
+abbrev pub onceIn : Mode → Parser → List ℕ → ℕ → Cluster → ℕ
+onceIn mode parser stream at c = cond (repeated mode parser stream at c) (c .len - 1) (c .len)
+
+unfoldable pub onceStretches : Mode → Parser → List ℕ → ℕ → List SpanAnswer → List Stretch
+onceStretches mode parser stream at [] = []
+onceStretches mode parser stream at (a ∷ later) =
+    stretches (take (onceIn mode parser stream at (a .answer .cluster)) (a .spans .chars)) ++ onceStretches mode parser stream (a .answer .state .place .at) later
+
+-- what a full run writes, out of the answers
+unfoldable pub allSpans : List SpanAnswer → List Span
+allSpans [] = []
+allSpans (a ∷ later) = take (a .answer .cluster .len) (a .spans .chars) ++ allSpans later
+
+abbrev pub startIn : SpanAnswer → ℕ
+startIn a = a .spans .start
+
+abbrev pub endIn : SpanAnswer → ℕ
+endIn a = a .spans .end
 
 -- stretches from one offset to another, in each of which the next may begin as `Next` has it, by where the last one ended
 abbrev pub Joins : (ℕ → ℕ → Type 0) → ℕ → List Stretch → ℕ → Type 0
