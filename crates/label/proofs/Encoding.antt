@@ -12,7 +12,8 @@ use borrow.Author.Tests.{lt-ltb, le-ltb, eq-eqb, ltb-true, ltb-false}
 use Rattle.basics.proofs.Tests.{by-test}
 use Rattle.label.specs.declared.utf8.Decoded.{Decoded}
 use Rattle.label.specs.declared.utf8.Decoded.the-variants.{Scalar, Bad}
-use Rattle.label.specs.Utf8.{tail, six, two, three, threeOf, four, fourOf, decodeFrom, decodeOf, encodeOf}
+use Rattle.spans.specs.Utf8.{encodeOf}
+use Rattle.label.specs.Utf8.{tail, six, two, three, threeOf, four, fourOf, decodeFrom, decodeOf}
 
 -- a byte of six bits goes on with a character
 goes-on : (y : ℕ) → y < 64 → eqb ((128 + y) / 64) 2 ≡ true

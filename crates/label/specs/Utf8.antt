@@ -70,11 +70,3 @@ stopFrom zero (b ∷ s) = passed (decodeOf (b ∷ s)) (λ n. stopFrom n s)
 -- all are read, as many as there is room for; or where it stopped
 unfoldable pub readOf : List ℕ → ℕ → Taken
 readOf s room = cond (ltb (stopFrom 0 s) (length s)) (NotUtf8 (stopFrom 0 s)) (Scalars (min (length (scalarsFrom 0 s)) room))
-
--- the bytes that UTF-8 writes a scalar with
-unfoldable pub encodeOf : ℕ → List ℕ
-encodeOf x =
-    cond (ltb x 0x80) (x ∷ [])
-    (cond (ltb x 0x800) ((192 + x / 64) ∷ (128 + x % 64) ∷ [])
-    (cond (ltb x 0x10000) ((224 + x / 4096) ∷ (128 + x / 64 % 64) ∷ (128 + x % 64) ∷ [])
-    ((240 + x / 262144) ∷ (128 + x / 4096 % 64) ∷ (128 + x / 64 % 64) ∷ (128 + x % 64) ∷ [])))

@@ -44,7 +44,7 @@ use Rattle.segment.proofs.Progress.{progress}
 use Rattle.segment.proofs.CallTurns.{call-within, call-most, call-length}
 use Rattle.segment.proofs.Coverage.{tokens, accepted-short, call-some}
 use Rattle.segment.proofs.Repeats.{call-unrepeated}
-use Rattle.segment.proofs.Demands.{at, is-found, step-ends, step-keeps, step-distance, step-passes, step-once, step-whole, step-some}
+use Rattle.segment.proofs.Demands.{at, is-found, step-ends, step-keeps, step-distance, step-passes, step-once, step-some}
 use Rattle.spans.specs.declared.Span.{Span}
 use Rattle.spans.specs.declared.Spans.{Spans}
 use Rattle.spans.specs.declared.SpanAnswer.{SpanAnswer}
@@ -301,11 +301,6 @@ module _ (s : Segmenter) (t : Text) (accepted : verdict (s .parser) t ≡ Accept
       let back : suc (((nextOf s t) .state) .place .at - 1) ≡ ((nextOf s t) .state) .place .at = omega (arith, step-passes s t accepted inside, step-distance s t) in
       end-some here (tokens s t) (charactersOf ((nextOf s t) .cluster)) 0 (s .place .at) (((nextOf s t) .state) .place .at) some covers
       ∙ ap (bytesBefore here (tokens s t)) (sym back) ∙ offset-next here (recordAt (tokens s t) (((nextOf s t) .state) .place .at - 1))
-
-  -- and "a start, that of its first character", which is the token at the place
-  pub step-start : (s .mode ≡ Whole) → (spanned s t) .spans .start ≡ offsetOf here (recordAt (tokens s t) (s .place .at))
-  unfolding spanned spansOf
-  step-start w = start-some here (tokens s t) (charactersOf ((nextOf s t) .cluster)) (s .place .at) _ (step-some s t accepted inside) (step-whole s t accepted inside w)
 
 -- # What the contracts shut out
 
