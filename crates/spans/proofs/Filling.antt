@@ -184,37 +184,47 @@ module _ (parser : Parser) (mode : Mode) (scalars stream : List ℕ) where
           (subst (λ xs. Under l₀ (map f (spansLeft 0)) l w (map f xs)) spans-step u)
           (el ∙ ap (λ xs. sets l w (map f xs)) (celled-first (spansFrom scalars stream at (pushed (callAt at))) ((callAt at) .len) spans-number))
 
-      pub fill-turn : (r : Spans) → r ≡ spansOf scalars stream at (clusterOf p) → (first : ℕ) → first ≡ firstRecord (charactersOf (clusterOf p)) → (at′ : ℕ) → at′ ≡ placeOf stream p →
-          (offsets′ lengths′ noffsets′ nlengths′ : List ℕ) →
-          offsets′ ≡ sets (cells .offsets) w (map offsetIn (take (p .len) (r .chars))) → lengths′ ≡ sets (cells .lengths) w (map lengthIn (take (p .len) (r .chars))) →
-          noffsets′ ≡ sets (cells .noffsets) w (map noffsetIn (take (p .len) (r .chars))) → nlengths′ ≡ sets (cells .nlengths) w (map nlengthIn (take (p .len) (r .chars))) →
-          Filling cells₀ (record { offsets = offsets′; lengths = lengths′; noffsets = noffsets′; nlengths = nlengths′; starts = set (cells .starts) k (r .start); ends = set (cells .ends) k (r .end) })
-          (record { index = first; bytes = r .start }) at′ (k + 1) (w + p .len)
+      -- the columns behind a cluster with these spans and this first record, of n characters, whose call handed back a place
+      abbrev After : Spans → ℕ → ℕ → ℕ → List ℕ → List ℕ → List ℕ → List ℕ → Type 0
+      After x first i n o l no nl =
+          Filling cells₀ (record { offsets = o; lengths = l; noffsets = no; nlengths = nl; starts = set (cells .starts) k (x .start); ends = set (cells .ends) k (x .end) })
+          (record { index = first; bytes = x .start }) i (k + 1) (w + n)
+
+      abbrev written : (Span → ℕ) → List ℕ → ℕ → Spans → List ℕ
+      written f l n x = sets l w (map f (take n (x .chars)))
+
+      turned : (o l no nl : List ℕ) →
+          o ≡ written offsetIn (cells .offsets) ((callAt at) .len) (spansOf scalars stream at (clusterOf (callAt at))) → l ≡ written lengthIn (cells .lengths) ((callAt at) .len) (spansOf scalars stream at (clusterOf (callAt at))) →
+          no ≡ written noffsetIn (cells .noffsets) ((callAt at) .len) (spansOf scalars stream at (clusterOf (callAt at))) → nl ≡ written nlengthIn (cells .nlengths) ((callAt at) .len) (spansOf scalars stream at (clusterOf (callAt at))) →
+          After (spansOf scalars stream at (clusterOf (callAt at))) (firstRecord (pushed (callAt at))) (placeOf stream (callAt at)) ((callAt at) .len) o l no nl
       unfolding spansOf
-      fill-turn r er first ef at′ ea offsets′ lengths′ noffsets′ nlengths′ e₁ e₂ e₃ e₄ =
-          let q = callAt at in
-          let spans : Spans = spansOf scalars stream at (clusterOf q) in
-          let es : r ≡ spans = er ∙ ap (λ (x : Parse). spansOf scalars stream at (clusterOf x)) e in
-          let chars : (f : Span → ℕ) (l : List ℕ) → sets l w (map f (take (p .len) (r .chars))) ≡ sets l w (map f (take (q .len) (spans .chars))) =
-          λ f l. ap (λ (x : Parse). sets l w (map f (take (x .len) (r .chars)))) e ∙ ap (λ (x : Spans). sets l w (map f (take (q .len) (x .chars)))) es in
-          let turned : Filling cells₀ (record { offsets = offsets′; lengths = lengths′; noffsets = noffsets′; nlengths = nlengths′; starts = set (cells .starts) k (startOf scalars (pushed q)); ends = set (cells .ends) k (endFrom scalars stream 0 at (pushed q)) })
-          (record { index = firstRecord (pushed q); bytes = startOf scalars (pushed q) }) (placeOf stream q) (k + 1) (w + q .len) =
+      turned o l no nl e₁ e₂ e₃ e₄ =
           record {
             inside = call-within parser mode stream short at h;
             few = omega (arith, s .few, progress parser mode stream short at h);
             room = omega (arith, s .room, call-room parser mode stream short at h);
             counts = refl;
-            offset = chars-turn offsetIn (cells₀ .offsets) (cells .offsets) offsets′ (s .offset) (e₁ ∙ chars offsetIn (cells .offsets));
-            length = chars-turn lengthIn (cells₀ .lengths) (cells .lengths) lengths′ (s .length) (e₂ ∙ chars lengthIn (cells .lengths));
-            noffset = chars-turn noffsetIn (cells₀ .noffsets) (cells .noffsets) noffsets′ (s .noffset) (e₃ ∙ chars noffsetIn (cells .noffsets));
-            nlength = chars-turn nlengthIn (cells₀ .nlengths) (cells .nlengths) nlengths′ (s .nlength) (e₄ ∙ chars nlengthIn (cells .nlengths));
-            start = under-one (cells₀ .starts) (startsLeft 0) (cells .starts) k _ _ (subst (λ xs. Under (cells₀ .starts) (startsLeft 0) (cells .starts) k xs) starts-step (s .start));
-            end = under-one (cells₀ .ends) (endsLeft 0) (cells .ends) k _ _ (subst (λ xs. Under (cells₀ .ends) (endsLeft 0) (cells .ends) k xs) ends-step (s .end));
-          } in
-          subst (λ (x : Spans). Filling cells₀ (record { offsets = offsets′; lengths = lengths′; noffsets = noffsets′; nlengths = nlengths′; starts = set (cells .starts) k (x .start); ends = set (cells .ends) k (x .end) }) (record { index = first; bytes = x .start }) at′ (k + 1) (w + p .len)) (sym es)
-          (subst (λ (i : ℕ). Filling cells₀ _ (record { index = i; bytes = startOf scalars (pushed q) }) at′ (k + 1) (w + p .len)) (sym (ef ∙ ap (λ (x : Parse). firstRecord (pushed x)) e))
-          (subst (λ (i : ℕ). Filling cells₀ _ _ i (k + 1) (w + p .len)) (sym (ea ∙ ap (placeOf stream) e))
-          (subst (λ (x : Parse). Filling cells₀ _ _ (placeOf stream q) (k + 1) (w + x .len)) (sym e) turned)))
+            offset = chars-turn offsetIn (cells₀ .offsets) (cells .offsets) o (s .offset) e₁;
+            length = chars-turn lengthIn (cells₀ .lengths) (cells .lengths) l (s .length) e₂;
+            noffset = chars-turn noffsetIn (cells₀ .noffsets) (cells .noffsets) no (s .noffset) e₃;
+            nlength = chars-turn nlengthIn (cells₀ .nlengths) (cells .nlengths) nl (s .nlength) e₄;
+            start = under-one (cells₀ .starts) (startsLeft 0) (cells .starts) k (startOf scalars (pushed (callAt at))) (startsLeft (placeOf stream (callAt at))) (subst (λ xs. Under (cells₀ .starts) (startsLeft 0) (cells .starts) k xs) starts-step (s .start));
+            end = under-one (cells₀ .ends) (endsLeft 0) (cells .ends) k (endFrom scalars stream 0 at (pushed (callAt at))) (endsLeft (placeOf stream (callAt at))) (subst (λ xs. Under (cells₀ .ends) (endsLeft 0) (cells .ends) k xs) ends-step (s .end));
+          }
+
+      pub fill-turn : (r : Spans) → r ≡ spansOf scalars stream at (clusterOf p) → (first : ℕ) → first ≡ firstRecord (charactersOf (clusterOf p)) → (at′ : ℕ) → at′ ≡ placeOf stream p →
+          (o l no nl : List ℕ) → o ≡ written offsetIn (cells .offsets) (p .len) r → l ≡ written lengthIn (cells .lengths) (p .len) r → no ≡ written noffsetIn (cells .noffsets) (p .len) r → nl ≡ written nlengthIn (cells .nlengths) (p .len) r →
+          After r first at′ (p .len) o l no nl
+      fill-turn r er first ef at′ ea o l no nl e₁ e₂ e₃ e₄ =
+          let q : Parse = callAt at in
+          let x : Spans = spansOf scalars stream at (clusterOf q) in
+          let es : r ≡ x = er ∙ ap (λ (y : Parse). spansOf scalars stream at (clusterOf y)) e in
+          let same : (f : Span → ℕ) (c : List ℕ) → written f c (p .len) r ≡ written f c (q .len) x = λ f c. ap (λ (y : Parse). written f c (y .len) r) e ∙ ap (written f c (q .len)) es in
+          let t : After x (firstRecord (pushed q)) (placeOf stream q) (q .len) o l no nl = turned o l no nl (e₁ ∙ same offsetIn (cells .offsets)) (e₂ ∙ same lengthIn (cells .lengths)) (e₃ ∙ same noffsetIn (cells .noffsets)) (e₄ ∙ same nlengthIn (cells .nlengths)) in
+          let t₁ : After r (firstRecord (pushed q)) (placeOf stream q) (q .len) o l no nl = subst (λ (y : Spans). After y (firstRecord (pushed q)) (placeOf stream q) (q .len) o l no nl) (sym es) t in
+          let t₂ : After r (firstRecord (pushed p)) (placeOf stream p) (p .len) o l no nl = subst (λ (y : Parse). After r (firstRecord (pushed y)) (placeOf stream y) (y .len) o l no nl) (sym e) t₁ in
+          let t₃ : After r first (placeOf stream p) (p .len) o l no nl = subst (λ (i : ℕ). After r i (placeOf stream p) (p .len) o l no nl) (sym ef) t₂ in
+          subst (λ (i : ℕ). After r first i (p .len) o l no nl) (sym ea) t₃
 
     pub fill-over : length stream ≤ at → cells ≡ lefts Accepted (columnsOf scalars stream 0 (callsOf parser mode stream)) cells₀
     unfolding spansIn startsIn endsIn

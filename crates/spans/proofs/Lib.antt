@@ -3,6 +3,7 @@ pub mod Encoded
 pub mod Along
 pub mod Filling
 pub mod Steps
+pub mod Outcomes
 pub mod Climbs
 pub mod Joining
 pub mod Demands
