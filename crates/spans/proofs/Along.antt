@@ -9,6 +9,8 @@ use lib.Dec.{eqb}
 use lib.ListN.{length, take, drop, set, getD, replicate, length-set, drop-of-length-le}
 use lib.Seq.{sets, drop-cons, length-take-le, take-all}
 use borrow.Author.Tests.{eq-eqb, ne-eqb}
+use Rattle.token.specs.Token.{indexOf}
+use Rattle.records.proofs.Any.{past-end}
 use Rattle.parse.specs.declared.Pushed.{Pushed}
 use Rattle.parse.specs.declared.Cluster.{Cluster}
 use Rattle.parse.specs.State.{nothing}
@@ -35,11 +37,12 @@ kept-cell (suc n) zero (x ∷ l) d h = refl
 kept-cell (suc n) (suc j) (x ∷ l) d h = kept-cell n j l d (omega arith)
 
 -- the first character's record
-pub first-none : (c : Cluster) → c .len ≡ 0 → 0 ≡ firstRecord (charactersOf c)
-first-none c e = rw e
+pub first-some : (n : ℕ) (chars : List Pushed) → (n ≡ 0 → ⊥) → (getD chars 0 nothing) .index ≡ (getD (take n chars) 0 nothing) .index
+first-some n chars some = ap (λ (x : Pushed). x .index) (sym (kept-cell n 0 chars nothing (omega arith)))
 
-pub first-some : (c : Cluster) → (c .len ≡ 0 → ⊥) → (getD (c .chars) 0 nothing) .index ≡ firstRecord (charactersOf c)
-first-some c n = ap (λ (x : Pushed). x .index) (sym (kept-cell (c .len) 0 (c .chars) nothing (omega arith)))
+-- past the end of the tokens
+pub past-none : (stream : List ℕ) (p : ℕ) → length stream ≤ p → 0 ≡ indexOf (getD stream p 0)
+past-none stream p h = ap indexOf (past-end stream p h)
 
 -- where the spans of j characters are in their cells, and the next one begins at a place
 pub record Walked (scalars stream : List ℕ) (at : ℕ) (c : Cluster) (from : Counted) (chars : List Span) (end place j : ℕ) : Type 0 where
@@ -82,7 +85,7 @@ module _ (scalars stream : List ℕ) (at : ℕ) (c : Cluster) (held : c .len ≤
     unfolding spansFrom endFrom
     walk-over h most =
         let n : length (charactersOf c) ≡ c .len = length-take-le (c .len) (c .chars) held in
-        let r : drop j (charactersOf c) ≡ [] = drop-of-length-le (charactersOf c) (omega arith) in
+        let r : drop j (charactersOf c) ≡ [] = drop-of-length-le (charactersOf c) {i = j} (omega arith) in
         let f : sets chars j (spansFrom scalars stream place []) ≡ sets (replicate 32 noSpan) 0 (spansFrom scalars stream at (charactersOf c)) = subst (λ cs. sets chars j (spansFrom scalars stream place cs) ≡ sets (replicate 32 noSpan) 0 (spansFrom scalars stream at (charactersOf c))) r (w .found) in
         let e : endFrom scalars stream end place [] ≡ endFrom scalars stream 0 at (charactersOf c) = subst (λ cs. endFrom scalars stream end place cs ≡ endFrom scalars stream 0 at (charactersOf c)) r (w .ended) in
         (f ∙ write-all (replicate 32 noSpan) (spansFrom scalars stream at (charactersOf c)) (omega (arith, spans-length scalars stream at (charactersOf c))), e)

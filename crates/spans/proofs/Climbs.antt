@@ -6,7 +6,7 @@ use mathlib.Core.Bool.{true, false}
 use mathlib.Core.List.{List, [], _∷_, _++_}
 use mathlib.Core.Logic.{_⊎_, inl, inr, ⊎-elim}
 use native.Mathlib.Omega.{arith}
-use native.Mathlib.Nat.{le-of-eq}
+use native.Mathlib.Nat.{le-of-eq, zero-add}
 use lib.ListN.{length, getD}
 use Rattle.classes.specs.declared.Mode.{Mode}
 use Rattle.classes.specs.declared.Mode.the-variants.{Whole}
@@ -110,11 +110,11 @@ module _ (mode : Mode) (parser : Parser) (t : Text) (few : length (t .records .s
   -- in whole mode, of every parser
   pub whole-climbs : mode ≡ Whole → Climbs Follows 0 (streamOf mode parser t) (length (t .records .scalars))
   unfolding streamOf
-  whole-climbs w = climbs-gather Follows (gives mode parser t) (length (t .records .scalars)) 0
-      (λ j l h. some-climb j (gives mode parser t j) (gives-some mode parser t j w) (λ k q. given-index mode parser t j k (omega arith) q))
+  whole-climbs w = subst (λ (q : ℕ). Climbs Follows 0 (gather (gives mode parser t) 0 (length (t .records .scalars))) q) (zero-add (length (t .records .scalars))) (climbs-gather Follows (gives mode parser t) (length (t .records .scalars)) 0
+      (λ j l h. some-climb j (gives mode parser t j) (gives-some mode parser t j w) (λ k q. given-index mode parser t j k (omega arith) q)))
 
   -- "one token each": simple and Myanmar in both modes
   pub unsplit-climbs : isComplex parser ≡ false → Climbs Comes 0 (streamOf mode parser t) (length (t .records .scalars))
   unfolding streamOf
-  unsplit-climbs u = climbs-gather Comes (gives mode parser t) (length (t .records .scalars)) 0
-      (λ j l h. one-climbs j (gives mode parser t j) (one-given mode parser t u j) (λ k q. given-index mode parser t j k (omega arith) q))
+  unsplit-climbs u = subst (λ (q : ℕ). Climbs Comes 0 (gather (gives mode parser t) 0 (length (t .records .scalars))) q) (zero-add (length (t .records .scalars))) (climbs-gather Comes (gives mode parser t) (length (t .records .scalars)) 0
+      (λ j l h. one-climbs j (gives mode parser t j) (one-given mode parser t u j) (λ k q. given-index mode parser t j k (omega arith) q)))

@@ -39,15 +39,27 @@ module _ (scalars : List ℕ) where
   end-most i = omega (arith, offset-most i, bytes-few (cell scalars i) .1)
 
   pub offset-rises : (i k : ℕ) → offsetOf scalars i ≤ offsetOf scalars (i + k)
-  offset-rises i zero = omega arith
+  offset-rises i zero = let e : i + 0 ≡ i = omega arith in omega (arith, ap (offsetOf scalars) e)
   offset-rises i (suc k) =
       let e : i + suc k ≡ i + k + 1 = omega arith in
       omega (arith, offset-rises i k, ap (offsetOf scalars) e, offset-next (i + k))
 
   -- where counting begins: no later than the record, with its bytes counted
-  pub before-counts : (c : Counted) (i : ℕ) → Counts scalars c → Counts scalars (countedBefore c i)
+  pub to-begins : (c f : Counted) (i : ℕ) → Counts scalars c → f ≡ countedBefore c i → (f .index ≤ i) × (f .bytes ≡ offsetOf scalars (f .index))
   unfolding offsetOf
-  before-counts c i h = if-intro (λ (b : Counted). Counts scalars b) (ltb i (c .index)) _ _ (λ e. refl) (λ e. h)
+  to-begins c f i h e = subst (λ (b : Counted). (b .index ≤ i) × (b .bytes ≡ offsetOf scalars (b .index))) (sym e)
+      (if-intro (λ (b : Counted). (b .index ≤ i) × (b .bytes ≡ offsetOf scalars (b .index))) (ltb i (c .index)) _ _ (λ l. (omega arith, refl)) (λ l. (ltb-false i (c .index) l, h)))
 
-  pub before-early : (c : Counted) (i : ℕ) → (countedBefore c i) .index ≤ i
-  before-early c i = if-intro (λ (b : Counted). b .index ≤ i) (ltb i (c .index)) _ _ (λ e. omega arith) (λ e. ltb-false _ _ e)
+  -- one record more
+  pub to-fits : (i b n : ℕ) → i < 65536 → b ≡ offsetOf scalars i → n ≡ lengthOf scalars i → b + n < 0x100000000
+  to-fits i b n h e f = omega (arith, end-most i)
+
+  pub to-turns : (index i b n : ℕ) → i < index → b ≡ offsetOf scalars i → n ≡ lengthOf scalars i → (i + 1 ≤ index) × (b + n ≡ offsetOf scalars (i + 1))
+  to-turns index i b n h e f = (omega arith, omega (arith, offset-next i))
+
+  -- all of them
+  pub to-over : (index i b : ℕ) → i ≤ index → index ≤ i → b ≡ offsetOf scalars i → _≡_ {A = Counted} (record { index = index; bytes = b }) (record { index = index; bytes = offsetOf scalars index })
+  to-over index i b l h e = let q : i ≡ index = omega arith in rw (e, q)
+
+pub length-by : (scalars : List ℕ) (i x r : ℕ) → r ≡ bytesOf x → x ≡ cell scalars i → r ≡ bytesOf (cell scalars i)
+length-by scalars i x r e f = e ∙ ap bytesOf f

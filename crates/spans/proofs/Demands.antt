@@ -160,7 +160,7 @@ module _ (parser : Parser) (mode : Mode) (t : Text) (accepted : verdict parser t
       go Whole e = refl
       go Crate e = absurd (let z : _≡_ {A = ℕ} 0 1 = cc in omega arith)
 
-  once-whole : mode ≡ Whole → (place : ℕ) (as : List SpanAnswer) → onceStretches mode parser stream place as ≡ characterStretches as
+  once-whole : mode ≡ Whole → (place : ℕ) (later : List SpanAnswer) → onceStretches mode parser stream place later ≡ characterStretches later
   unfolding onceStretches characterStretches
   once-whole w place [] = refl
   once-whole w place (a ∷ later) = rw (none-whole w place (a .answer .cluster)) (ap (λ xs. stretches (take (a .answer .cluster .len) (a .spans .chars)) ++ xs) (once-whole w (a .answer .state .place .at) later))

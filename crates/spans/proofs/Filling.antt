@@ -47,9 +47,9 @@ under-over : (l₀ all l : List ℕ) (w : ℕ) (left : List ℕ) → left ≡ []
 under-over l₀ all l w left e h u = ap (sets l w) (sym e) ∙ u .1 ∙ write-all l₀ all h
 
 -- the six of them
-columns-same : (o l no nl s e o′ l′ no′ nl′ s′ e′ : List ℕ) → o ≡ o′ → l ≡ l′ → no ≡ no′ → nl ≡ nl′ → s ≡ s′ → e ≡ e′ →
-    _≡_ {A = Columns} (record { offsets = o; lengths = l; noffsets = no; nlengths = nl; starts = s; ends = e }) (record { offsets = o′; lengths = l′; noffsets = no′; nlengths = nl′; starts = s′; ends = e′ })
-columns-same o l no nl s e o′ l′ no′ nl′ s′ e′ a b c d f g = rw (a, b, c, d, f, g)
+columns-same : (o l m n s e o′ l′ m′ n′ s′ e′ : List ℕ) → o ≡ o′ → l ≡ l′ → m ≡ m′ → n ≡ n′ → s ≡ s′ → e ≡ e′ →
+    _≡_ {A = Columns} (record { offsets = o; lengths = l; noffsets = m; nlengths = n; starts = s; ends = e }) (record { offsets = o′; lengths = l′; noffsets = m′; nlengths = n′; starts = s′; ends = e′ })
+columns-same o l m n s e o′ l′ m′ n′ s′ e′ a b c d f g = rw (a, b, c, d, f, g)
 
 -- # The spans in their cells
 
@@ -153,10 +153,10 @@ module _ (parser : Parser) (mode : Mode) (scalars stream : List ℕ) where
             most = most;
             cells = omega (arith, most, celled-length (spansFrom scalars stream at (pushed (callAt at))) (omega (arith, spans-number, most)));
             near = omega (arith, s .room, roomy .short);
-            offset = omega (arith, s .room, s .offset .0, roomy .room, room, within);
-            length = omega (arith, s .room, s .length .0, roomy .room, room, within);
-            noffset = omega (arith, s .room, s .noffset .0, roomy .room, room, within);
-            nlength = omega (arith, s .room, s .nlength .0, roomy .room, room, within);
+            at-offsets = omega (arith, s .room, s .offset .0, roomy .room, room, within);
+            at-lengths = omega (arith, s .room, s .length .0, roomy .room, room, within);
+            at-noffsets = omega (arith, s .room, s .noffset .0, roomy .room, room, within);
+            at-nlengths = omega (arith, s .room, s .nlength .0, roomy .room, room, within);
           }))
 
       pub fill-falls : (at′ : ℕ) → at′ ≡ placeOf stream p → length stream - at′ < length stream - at
@@ -186,19 +186,19 @@ module _ (parser : Parser) (mode : Mode) (scalars stream : List ℕ) where
 
       -- the columns behind a cluster with these spans and this first record, of n characters, whose call handed back a place
       abbrev After : Spans → ℕ → ℕ → ℕ → List ℕ → List ℕ → List ℕ → List ℕ → Type 0
-      After x first i n o l no nl =
-          Filling cells₀ (record { offsets = o; lengths = l; noffsets = no; nlengths = nl; starts = set (cells .starts) k (x .start); ends = set (cells .ends) k (x .end) })
-          (record { index = first; bytes = x .start }) i (k + 1) (w + n)
+      After x first i count o l m n =
+          Filling cells₀ (record { offsets = o; lengths = l; noffsets = m; nlengths = n; starts = set (cells .starts) k (x .start); ends = set (cells .ends) k (x .end) })
+          (record { index = first; bytes = x .start }) i (k + 1) (w + count)
 
       abbrev written : (Span → ℕ) → List ℕ → ℕ → Spans → List ℕ
       written f l n x = sets l w (map f (take n (x .chars)))
 
-      turned : (o l no nl : List ℕ) →
+      turned : (o l m n : List ℕ) →
           o ≡ written offsetIn (cells .offsets) ((callAt at) .len) (spansOf scalars stream at (clusterOf (callAt at))) → l ≡ written lengthIn (cells .lengths) ((callAt at) .len) (spansOf scalars stream at (clusterOf (callAt at))) →
-          no ≡ written noffsetIn (cells .noffsets) ((callAt at) .len) (spansOf scalars stream at (clusterOf (callAt at))) → nl ≡ written nlengthIn (cells .nlengths) ((callAt at) .len) (spansOf scalars stream at (clusterOf (callAt at))) →
-          After (spansOf scalars stream at (clusterOf (callAt at))) (firstRecord (pushed (callAt at))) (placeOf stream (callAt at)) ((callAt at) .len) o l no nl
+          m ≡ written noffsetIn (cells .noffsets) ((callAt at) .len) (spansOf scalars stream at (clusterOf (callAt at))) → n ≡ written nlengthIn (cells .nlengths) ((callAt at) .len) (spansOf scalars stream at (clusterOf (callAt at))) →
+          After (spansOf scalars stream at (clusterOf (callAt at))) (firstRecord (pushed (callAt at))) (placeOf stream (callAt at)) ((callAt at) .len) o l m n
       unfolding spansOf
-      turned o l no nl e₁ e₂ e₃ e₄ =
+      turned o l m n e₁ e₂ e₃ e₄ =
           record {
             inside = call-within parser mode stream short at h;
             few = omega (arith, s .few, progress parser mode stream short at h);
@@ -206,25 +206,25 @@ module _ (parser : Parser) (mode : Mode) (scalars stream : List ℕ) where
             counts = refl;
             offset = chars-turn offsetIn (cells₀ .offsets) (cells .offsets) o (s .offset) e₁;
             length = chars-turn lengthIn (cells₀ .lengths) (cells .lengths) l (s .length) e₂;
-            noffset = chars-turn noffsetIn (cells₀ .noffsets) (cells .noffsets) no (s .noffset) e₃;
-            nlength = chars-turn nlengthIn (cells₀ .nlengths) (cells .nlengths) nl (s .nlength) e₄;
+            noffset = chars-turn noffsetIn (cells₀ .noffsets) (cells .noffsets) m (s .noffset) e₃;
+            nlength = chars-turn nlengthIn (cells₀ .nlengths) (cells .nlengths) n (s .nlength) e₄;
             start = under-one (cells₀ .starts) (startsLeft 0) (cells .starts) k (startOf scalars (pushed (callAt at))) (startsLeft (placeOf stream (callAt at))) (subst (λ xs. Under (cells₀ .starts) (startsLeft 0) (cells .starts) k xs) starts-step (s .start));
             end = under-one (cells₀ .ends) (endsLeft 0) (cells .ends) k (endFrom scalars stream 0 at (pushed (callAt at))) (endsLeft (placeOf stream (callAt at))) (subst (λ xs. Under (cells₀ .ends) (endsLeft 0) (cells .ends) k xs) ends-step (s .end));
           }
 
       pub fill-turn : (r : Spans) → r ≡ spansOf scalars stream at (clusterOf p) → (first : ℕ) → first ≡ firstRecord (charactersOf (clusterOf p)) → (at′ : ℕ) → at′ ≡ placeOf stream p →
-          (o l no nl : List ℕ) → o ≡ written offsetIn (cells .offsets) (p .len) r → l ≡ written lengthIn (cells .lengths) (p .len) r → no ≡ written noffsetIn (cells .noffsets) (p .len) r → nl ≡ written nlengthIn (cells .nlengths) (p .len) r →
-          After r first at′ (p .len) o l no nl
-      fill-turn r er first ef at′ ea o l no nl e₁ e₂ e₃ e₄ =
+          (o l m n : List ℕ) → o ≡ written offsetIn (cells .offsets) (p .len) r → l ≡ written lengthIn (cells .lengths) (p .len) r → m ≡ written noffsetIn (cells .noffsets) (p .len) r → n ≡ written nlengthIn (cells .nlengths) (p .len) r →
+          After r first at′ (p .len) o l m n
+      fill-turn r er first ef at′ ea o l m n e₁ e₂ e₃ e₄ =
           let q : Parse = callAt at in
           let x : Spans = spansOf scalars stream at (clusterOf q) in
           let es : r ≡ x = er ∙ ap (λ (y : Parse). spansOf scalars stream at (clusterOf y)) e in
           let same : (f : Span → ℕ) (c : List ℕ) → written f c (p .len) r ≡ written f c (q .len) x = λ f c. ap (λ (y : Parse). written f c (y .len) r) e ∙ ap (written f c (q .len)) es in
-          let t : After x (firstRecord (pushed q)) (placeOf stream q) (q .len) o l no nl = turned o l no nl (e₁ ∙ same offsetIn (cells .offsets)) (e₂ ∙ same lengthIn (cells .lengths)) (e₃ ∙ same noffsetIn (cells .noffsets)) (e₄ ∙ same nlengthIn (cells .nlengths)) in
-          let t₁ : After r (firstRecord (pushed q)) (placeOf stream q) (q .len) o l no nl = subst (λ (y : Spans). After y (firstRecord (pushed q)) (placeOf stream q) (q .len) o l no nl) (sym es) t in
-          let t₂ : After r (firstRecord (pushed p)) (placeOf stream p) (p .len) o l no nl = subst (λ (y : Parse). After r (firstRecord (pushed y)) (placeOf stream y) (y .len) o l no nl) (sym e) t₁ in
-          let t₃ : After r first (placeOf stream p) (p .len) o l no nl = subst (λ (i : ℕ). After r i (placeOf stream p) (p .len) o l no nl) (sym ef) t₂ in
-          subst (λ (i : ℕ). After r first i (p .len) o l no nl) (sym ea) t₃
+          let t : After x (firstRecord (pushed q)) (placeOf stream q) (q .len) o l m n = turned o l m n (e₁ ∙ same offsetIn (cells .offsets)) (e₂ ∙ same lengthIn (cells .lengths)) (e₃ ∙ same noffsetIn (cells .noffsets)) (e₄ ∙ same nlengthIn (cells .nlengths)) in
+          let t₁ : After r (firstRecord (pushed q)) (placeOf stream q) (q .len) o l m n = subst (λ (y : Spans). After y (firstRecord (pushed q)) (placeOf stream q) (q .len) o l m n) (sym es) t in
+          let t₂ : After r (firstRecord (pushed p)) (placeOf stream p) (p .len) o l m n = subst (λ (y : Parse). After r (firstRecord (pushed y)) (placeOf stream y) (y .len) o l m n) (sym e) t₁ in
+          let t₃ : After r first (placeOf stream p) (p .len) o l m n = subst (λ (i : ℕ). After r i (placeOf stream p) (p .len) o l m n) (sym ef) t₂ in
+          subst (λ (i : ℕ). After r first i (p .len) o l m n) (sym ea) t₃
 
     pub fill-over : length stream ≤ at → cells ≡ lefts Accepted (columnsOf scalars stream 0 (callsOf parser mode stream)) cells₀
     unfolding spansIn startsIn endsIn

@@ -70,13 +70,13 @@ module _ (scalars stream : List ℕ) (Next : ℕ → ℕ → Type 0)
   span-joins c p e h = by-test (eqb (c .noted) 0)
       (λ z. let n : c .noted ≡ 0 = eqb-true _ _ z in
       let f : p + c .noted ≡ p = omega arith in
-      rw z (own, ap (endOf scalars) e ∙ sym (last-before p (c .noted) ∙ ap (λ (k : ℕ). endOf scalars (recordAt stream k)) f)))
+      rw z (own, ap (endOf scalars) e ∙ sym (last-before scalars stream p (c .noted) ∙ ap (λ (k : ℕ). endOf scalars (recordAt stream k)) f)))
       (λ z. let some : 0 < c .noted = positive (c .noted) (eqb-false _ _ z) in
       let f : p + 1 + (c .noted - 1) ≡ p + c .noted = omega arith in
       let up : recordAt stream (p + 1) ≤ recordAt stream (p + c .noted) = subst (λ (k : ℕ). recordAt stream (p + 1) ≤ recordAt stream k) f (rises (p + 1) (c .noted - 1) (omega arith)) in
-      let less = below (recordAt stream (p + 1)) (recordAt stream (p + c .noted)) up in
+      let less = below scalars stream (recordAt stream (p + 1)) (recordAt stream (p + c .noted)) up in
       let long : eqb (endOf scalars (recordAt stream (p + c .noted)) - offsetOf scalars (recordAt stream (p + 1))) 0 ≡ false = ne-eqb _ _ (λ q. absurd (omega (arith, less))) in
-      rw (z, long) (own, (noted some, omega (arith, less, last-before p (c .noted)))))
+      rw (z, long) (own, (noted some, omega (arith, less, last-before scalars stream p (c .noted)))))
     where
       positive : (n : ℕ) → (n ≡ 0 → ⊥) → 0 < n
       positive n k = omega arith
@@ -85,7 +85,7 @@ module _ (scalars stream : List ℕ) (Next : ℕ → ℕ → Type 0)
       own = subst (λ (i : ℕ). Next (bytesBefore scalars stream p) (offsetOf scalars i)) (sym e) (next p (omega arith))
 
       noted : 0 < c .noted → Next (offsetOf scalars (c .index) + lengthOf scalars (c .index)) (offsetOf scalars (recordAt stream (p + 1)))
-      noted some = subst (λ (i : ℕ). Next i (offsetOf scalars (recordAt stream (p + 1)))) (end-before p ∙ ap (endOf scalars) (sym e))
+      noted some = subst (λ (i : ℕ). Next i (offsetOf scalars (recordAt stream (p + 1)))) (end-before scalars stream p ∙ ap (endOf scalars) (sym e))
           (subst (λ (k : ℕ). Next (bytesBefore scalars stream k) (offsetOf scalars (recordAt stream (p + 1)))) (add-one p) (next (p + 1) (omega arith)))
 
   -- all of them, up to a place

@@ -13,6 +13,7 @@ use Rattle.records.specs.Text.{Text}
 use Rattle.records.specs.Refusals.{_⊳_, refusal, refuse, verdict}
 use Rattle.records.specs.declared.Parser.{Parser}
 use Rattle.records.specs.declared.Side.the-variants.{Neither}
+use Rattle.records.specs.declared.Refusal.{Refusal}
 use Rattle.records.specs.declared.Verdict.{Verdict}
 use Rattle.records.specs.declared.Verdict.the-variants.{Accepted, Refused}
 use Rattle.stream.specs.Stream.{streamOf, mostTokens}
@@ -23,6 +24,17 @@ use Rattle.segment.specs.Inner.{Streamed, tokenCount}
 use Rattle.segment.proofs.CallLaws.{streamed, counted}
 use Rattle.spans.specs.Runs.{Columns, columnsOf, lefts, shortestOf, spanVerdict, spansIn, startsIn, endsIn, RanSpans}
 use Rattle.spans.specs.Inner.{Roomy, RoomyIn}
+
+-- the shortest of six
+pub shortest-is : (a b c d e f p q r s t : ℕ) → p ≡ min e f → q ≡ min d p → r ≡ min c q → s ≡ min b r → t ≡ min a s → t ≡ min a (min b (min c (min d (min e f))))
+shortest-is a b c d e f p q r s t ep eq er es et = rw (et, es, er, eq, ep)
+
+-- the refusal where the six columns are too short: 9, or the check's own
+pub crowded-room : (v w : Verdict) (r : RunAnswer) → v ≡ w → v ≡ Accepted → r ≡ record { verdict = Refused (refusal 9 Neither 0); clusters = 0; characters = 0 } → r ≡ runUnder (w ⊳ Refused (refusal 9 Neither 0)) []
+crowded-room v w r e a h = rw (← e, a) h
+
+pub crowded-check : (v w : Verdict) (q : Refusal) (r : RunAnswer) → v ≡ w → v ≡ Refused q → r ≡ record { verdict = Refused q; clusters = 0; characters = 0 } → r ≡ runUnder (w ⊳ Refused (refusal 9 Neither 0)) []
+crowded-check v w q r e a h = rw (← e, a) h
 
 none-left : (calls : List Parse) → length calls ≡ 0 → calls ≡ []
 none-left [] e = refl
@@ -48,7 +60,7 @@ module _ (parser : Parser) (mode : Mode) (t : Text) (scalars classes clusters : 
     where
       go : (w : Verdict) → verdict parser t ≡ w → w ⊳ roomFor (length stream) (min (shortest scalars classes clusters) (shortestOf cells)) ≡ w ⊳ Refused (refusal 9 Neither 0)
       go (Refused q) e = refl
-      go Accepted e = let k : ltb (min (shortest scalars classes clusters) (shortestOf cells)) (2 * length stream) ≡ true = lt-ltb _ _ (omega (arith, number e)) in rw k
+      go Accepted e = let k : ltb (min (shortest scalars classes clusters) (shortestOf cells)) (2 * length stream) ≡ true = lt-ltb (min (shortest scalars classes clusters) (shortestOf cells)) (2 * length stream) (omega (arith, number e)) in rw k
 
   pub ran-crowded : shortestOf cells / 2 < n → (r : RunAnswer) → r ≡ runUnder (verdict parser t ⊳ Refused (refusal 9 Neither 0)) [] → RanSpans parser mode t scalars classes clusters cells r scalars classes clusters cells
   ran-crowded h r e = record { base = go (verdict parser t) v (crowds h) e .0; left = go (verdict parser t) v (crowds h) e .1 }
@@ -80,12 +92,12 @@ module _ (parser : Parser) (mode : Mode) (t : Text) (scalars classes clusters : 
     unfolding spansIn startsIn endsIn
     ran-none z = record { base = base-is; left = go v base-is }
       where
+        empty : calls ≡ [] → cells ≡ lefts Accepted (columnsOf (t .records .scalars) stream 0 calls) cells
+        empty e = subst (λ ps. cells ≡ lefts Accepted (columnsOf (t .records .scalars) stream 0 ps) cells) (sym e) refl
+
         go : (u : Verdict) → Ran u calls scalars classes clusters r scalars′ classes′ clusters′ → cells ≡ lefts u (columnsOf (t .records .scalars) stream 0 calls) cells
         go (Refused q) w = refl
         go Accepted w = empty (none-left calls (sym (ap (λ (a : RunAnswer). a .clusters) (w .answer)) ∙ z))
-
-        empty : calls ≡ [] → cells ≡ lefts Accepted (columnsOf (t .records .scalars) stream 0 calls) cells
-        empty e = subst (λ ps. cells ≡ lefts Accepted (columnsOf (t .records .scalars) stream 0 ps) cells) (sym e) refl
 
     is-accepted : (r .clusters ≡ 0 → ⊥) → v ≡ Accepted
     is-accepted z = go v base-is refl

@@ -40,15 +40,15 @@ some-spannable s t a e n = subst (λ (b : Answer). Spannable s t (b .cluster) mo
     go = next-case s t (λ b. ((b .cluster) .len ≡ 0 → ⊥) → Spannable s t (b .cluster) mostTokens)
         (λ r v z. absurd (z refl)) (λ v l z. absurd (z refl)) (λ v l z. absurd (z refl))
         (λ v l z.
-          let held : Streamed (s .mode) (s .parser) t = streamed (s .mode) (s .parser) t v in
-          let short : length (tokens s t) ≤ 65535 = accepted-short (s .mode) (s .parser) t v in
-          record {
-            streamed = held;
-            fits = held .room;
-            most = call-most (s .parser) (s .mode) (tokens s t) short (s .place .at) l;
-            cells = omega (arith, call-length (s .parser) (s .mode) (tokens s t) short (s .place .at) l, length-take ((called (s .parser) (s .mode) (tokens s t) (s .place .at)) .len) ((called (s .parser) (s .mode) (tokens s t) (s .place .at)) .chars));
-            near = omega (arith, held .room);
-          })
+        let held : Streamed (s .mode) (s .parser) t = streamed (s .mode) (s .parser) t v in
+        let short : length (tokens s t) ≤ 65535 = accepted-short (s .mode) (s .parser) t v in
+        record {
+          streamed = held;
+          fits = held .room;
+          most = call-most (s .parser) (s .mode) (tokens s t) short (s .place .at) l;
+          cells = omega (arith, call-length (s .parser) (s .mode) (tokens s t) short (s .place .at) l, length-take ((called (s .parser) (s .mode) (tokens s t) (s .place .at)) .len) ((called (s .parser) (s .mode) (tokens s t) (s .place .at)) .chars));
+          near = omega (arith, held .room);
+        })
 
 -- the answer and the spans beside it
 module _ (s : Segmenter) (t : Text) (a : Answer) (e : a ≡ nextOf s t) where

@@ -57,22 +57,22 @@ pub record Fits (spans : Spans) (len at : ℕ) (offsets lengths noffsets nlength
   pub most : len ≤ 32
   pub cells : len ≤ length (spans .chars)
   pub near : at ≤ 65535
-  pub offset : at + len ≤ length offsets
-  pub length : at + len ≤ length lengths
-  pub noffset : at + len ≤ length noffsets
-  pub nlength : at + len ≤ length nlengths
+  pub at-offsets : at + len ≤ length offsets
+  pub at-lengths : at + len ≤ length lengths
+  pub at-noffsets : at + len ≤ length noffsets
+  pub at-nlengths : at + len ≤ length nlengths
 
 -- these characters, written from a cell on
 pub record Written (spans : Spans) (len at : ℕ) (offsets lengths noffsets nlengths : Output) : Type 0 where
-  pub offset : now (offsets .exit) ≡ sets (now (offsets .entry)) at (map offsetIn (take len (spans .chars)))
-  pub length : now (lengths .exit) ≡ sets (now (lengths .entry)) at (map lengthIn (take len (spans .chars)))
-  pub noffset : now (noffsets .exit) ≡ sets (now (noffsets .entry)) at (map noffsetIn (take len (spans .chars)))
-  pub nlength : now (nlengths .exit) ≡ sets (now (nlengths .entry)) at (map nlengthIn (take len (spans .chars)))
+  pub at-offsets : now (offsets .exit) ≡ sets (now (offsets .entry)) at (map offsetIn (take len (spans .chars)))
+  pub at-lengths : now (lengths .exit) ≡ sets (now (lengths .entry)) at (map lengthIn (take len (spans .chars)))
+  pub at-noffsets : now (noffsets .exit) ≡ sets (now (noffsets .entry)) at (map noffsetIn (take len (spans .chars)))
+  pub at-nlengths : now (nlengths .exit) ≡ sets (now (nlengths .entry)) at (map nlengthIn (take len (spans .chars)))
 
 -- the six columns as they are lent
 abbrev pub cellsOf : Cells → Cells → Cells → Cells → Cells → Cells → Columns
-cellsOf o l no nl s e =
-    record { offsets = now o; lengths = now l; noffsets = now no; nlengths = now nl; starts = now s; ends = now e }
+cellsOf o l m n s e =
+    record { offsets = now o; lengths = now l; noffsets = now m; nlengths = now n; starts = now s; ends = now e }
 
 -- twice as many cells as there are tokens
 pub record Roomy (stream : List ℕ) (cells : Columns) : Type 0 where
@@ -86,8 +86,8 @@ pub record RoomyIn (parser : Parser) (mode : Mode) (t : Text) (room : ℕ) (cell
 
 -- the columns filled by all calls
 abbrev pub FilledOn : Parser → Mode → List ℕ → List ℕ → Output → Output → Output → Output → Output → Output → Type 0
-FilledOn parser mode scalars stream o l no nl s e =
-    exits o l no nl s e ≡ lefts Accepted (columnsOf scalars stream 0 (callsOf parser mode stream)) (entries o l no nl s e)
+FilledOn parser mode scalars stream o l m n s e =
+    exits o l m n s e ≡ lefts Accepted (columnsOf scalars stream 0 (callsOf parser mode stream)) (entries o l m n s e)
 
 abbrev pub FilledIn : Parser → Mode → Text → Output → Output → Output → Output → Output → Output → Type 0
-FilledIn parser mode t o l no nl s e = FilledOn parser mode (t .records .scalars) (streamOf mode parser t) o l no nl s e
+FilledIn parser mode t o l m n s e = FilledOn parser mode (t .records .scalars) (streamOf mode parser t) o l m n s e

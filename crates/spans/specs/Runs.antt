@@ -101,13 +101,13 @@ pub record RanSpans (parser : Parser) (mode : Mode) (t : Text) (scalars classes 
 -- The same as a contract says it: columns as they were lent, and as they are left
 
 abbrev pub entries : Output → Output → Output → Output → Output → Output → Columns
-entries o l no nl s e =
-    record { offsets = now (o .entry); lengths = now (l .entry); noffsets = now (no .entry); nlengths = now (nl .entry); starts = now (s .entry); ends = now (e .entry) }
+entries o l m n s e =
+    record { offsets = now (o .entry); lengths = now (l .entry); noffsets = now (m .entry); nlengths = now (n .entry); starts = now (s .entry); ends = now (e .entry) }
 
 abbrev pub exits : Output → Output → Output → Output → Output → Output → Columns
-exits o l no nl s e =
-    record { offsets = now (o .exit); lengths = now (l .exit); noffsets = now (no .exit); nlengths = now (nl .exit); starts = now (s .exit); ends = now (e .exit) }
+exits o l m n s e =
+    record { offsets = now (o .exit); lengths = now (l .exit); noffsets = now (m .exit); nlengths = now (n .exit); starts = now (s .exit); ends = now (e .exit) }
 
 abbrev pub RanSpansIn : Parser → Mode → Text → Output → Output → Output → Output → Output → Output → Output → Output → Output → RunAnswer → Type 0
-RanSpansIn parser mode t os oc on o l no nl s e r =
-    RanSpans parser mode t (now (os .entry)) (now (oc .entry)) (now (on .entry)) (entries o l no nl s e) r (now (os .exit)) (now (oc .exit)) (now (on .exit)) (exits o l no nl s e)
+RanSpansIn parser mode t os oc on o l m n s e r =
+    RanSpans parser mode t (now (os .entry)) (now (oc .entry)) (now (on .entry)) (entries o l m n s e) r (now (os .exit)) (now (oc .exit)) (now (on .exit)) (exits o l m n s e)

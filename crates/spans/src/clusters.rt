@@ -6,7 +6,7 @@ use crate::offsets::length_of;
 use parse::Cluster;
 use parse::Pushed;
 ghost use mathlib.Core.Path.{_≡_};
-ghost use Prim.Native.Nat.{_<_};
+ghost use Prim.Native.Nat.{_-_};
 ghost use Rattle.parse.specs.Cover.{charactersOf};
 ghost use Rattle.spans.specs.Spans.{recordAt, lastRecord, spanOf, spansOf, firstRecord};
 ghost use Rattle.spans.specs.Inner.{Counts, Near, Asked};

@@ -37,7 +37,7 @@ impl Counted {
     pub(crate) const START: Counted = Counted { index: 0, bytes: 0 };
 
     // Where to count from up to a record: here, or at the text's start where the record lies before.
-    fn before(self, index: u16) -> Counted
+    fn begin(self, index: u16) -> Counted
         ensures { λ r. ⌜ r ≡ countedBefore self index ⌝ }
     {
         if index < self.index {
@@ -51,7 +51,7 @@ impl Counted {
         requires { ⌜ Counts (now scalars) self ⌝ }
         ensures { λ r. ⌜ r ≡ record { index = index; bytes = offsetOf (now (scalars .entry)) index } ⌝ }
     {
-        let from = self.before(index);
+        let from = self.begin(index);
         let mut i = from.index;
         let mut bytes = from.bytes;
         while i < index {
