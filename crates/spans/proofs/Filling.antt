@@ -56,7 +56,7 @@ columns-same o l m n s e o′ l′ m′ n′ s′ e′ a b c d f g = rw (a, b, c
 celled-length : (xs : List Span) → length xs ≤ 32 → length (celled xs) ≡ 32
 celled-length xs h = length-append xs (drop (length xs) (replicate 32 noSpan)) ∙ omega (arith, length-drop (length xs) (replicate 32 noSpan))
 
-celled-first : (xs : List Span) (n : ℕ) → length xs ≡ n → take n (celled xs) ≡ xs
+pub celled-first : (xs : List Span) (n : ℕ) → length xs ≡ n → take n (celled xs) ≡ xs
 celled-first xs n e = take-at xs (drop (length xs) (replicate 32 noSpan)) n e
 
 -- # What is left of a run
@@ -234,9 +234,19 @@ module _ (parser : Parser) (mode : Mode) (scalars stream : List ℕ) where
         let many : length (callsOf parser mode stream) ≤ length stream = omega (arith, calls-some parser mode stream short (length stream) 0 (omega arith) .1) in
         let left : (f : Span → ℕ) → map f (spansLeft at) ≡ [] = λ f. ap (λ ps. map f (spansIn scalars stream at ps)) none in
         columns-same _ _ _ _ _ _ _ _ _ _ _ _
-        (under-over (cells₀ .offsets) _ (cells .offsets) w _ (left offsetIn) (omega (arith, wide offsetIn, roomy .room)) (s .offset))
-        (under-over (cells₀ .lengths) _ (cells .lengths) w _ (left lengthIn) (omega (arith, wide lengthIn, roomy .room)) (s .length))
-        (under-over (cells₀ .noffsets) _ (cells .noffsets) w _ (left noffsetIn) (omega (arith, wide noffsetIn, roomy .room)) (s .noffset))
-        (under-over (cells₀ .nlengths) _ (cells .nlengths) w _ (left nlengthIn) (omega (arith, wide nlengthIn, roomy .room)) (s .nlength))
-        (under-over (cells₀ .starts) _ (cells .starts) k _ (ap (startsIn scalars) none) (omega (arith, starts-length (callsOf parser mode stream), many, roomy .room)) (s .start))
-        (under-over (cells₀ .ends) _ (cells .ends) k _ (ap (endsIn scalars stream at) none) (omega (arith, ends-length 0 (callsOf parser mode stream), many, roomy .room)) (s .end))
+        (under-over (cells₀ .offsets) (map offsetIn (spansLeft 0)) (cells .offsets) w _ (left offsetIn) (omega (arith, wide offsetIn, roomy .room)) (s .offset))
+        (under-over (cells₀ .lengths) (map lengthIn (spansLeft 0)) (cells .lengths) w _ (left lengthIn) (omega (arith, wide lengthIn, roomy .room)) (s .length))
+        (under-over (cells₀ .noffsets) (map noffsetIn (spansLeft 0)) (cells .noffsets) w _ (left noffsetIn) (omega (arith, wide noffsetIn, roomy .room)) (s .noffset))
+        (under-over (cells₀ .nlengths) (map nlengthIn (spansLeft 0)) (cells .nlengths) w _ (left nlengthIn) (omega (arith, wide nlengthIn, roomy .room)) (s .nlength))
+        (under-over (cells₀ .starts) (startsLeft 0) (cells .starts) k _ (ap (startsIn scalars) none) (omega (arith, starts-length (callsOf parser mode stream), many, roomy .room)) (s .start))
+        (under-over (cells₀ .ends) (endsLeft 0) (cells .ends) k _ (ap (endsIn scalars stream at) none) (omega (arith, ends-length 0 (callsOf parser mode stream), many, roomy .room)) (s .end))
+
+-- the same over an array that holds the stream
+pub roomy-by : (stream cells : List ℕ) (c : Columns) → cells ≡ stream → Roomy stream c → Roomy cells c
+roomy-by stream cells c e r = subst (λ l. Roomy l c) (sym e) r
+
+pub filled-by : (parser : Parser) (mode : Mode) (scalars stream cells : List ℕ) (o l m n s e : List ℕ) (c : Columns) → cells ≡ stream →
+    c ≡ lefts Accepted (columnsOf scalars cells 0 (callsOf parser mode cells)) (record { offsets = o; lengths = l; noffsets = m; nlengths = n; starts = s; ends = e }) →
+    c ≡ lefts Accepted (columnsOf scalars stream 0 (callsOf parser mode stream)) (record { offsets = o; lengths = l; noffsets = m; nlengths = n; starts = s; ends = e })
+filled-by parser mode scalars stream cells o l m n s e c h f =
+    subst (λ k. c ≡ lefts Accepted (columnsOf scalars k 0 (callsOf parser mode k)) (record { offsets = o; lengths = l; noffsets = m; nlengths = n; starts = s; ends = e })) h f

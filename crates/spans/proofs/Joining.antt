@@ -74,12 +74,18 @@ module _ (scalars stream : List ℕ) (Next : ℕ → ℕ → Type 0)
       (λ z. let some : 0 < c .noted = positive (c .noted) (eqb-false _ _ z) in
       let f : p + 1 + (c .noted - 1) ≡ p + c .noted = omega arith in
       let up : recordAt stream (p + 1) ≤ recordAt stream (p + c .noted) = subst (λ (k : ℕ). recordAt stream (p + 1) ≤ recordAt stream k) f (rises (p + 1) (c .noted - 1) (omega arith)) in
-      let less = below scalars stream (recordAt stream (p + 1)) (recordAt stream (p + c .noted)) up in
-      let long : eqb (endOf scalars (recordAt stream (p + c .noted)) - offsetOf scalars (recordAt stream (p + 1))) 0 ≡ false = ne-eqb _ _ (λ q. absurd (omega (arith, less))) in
-      rw (z, long) (own, (noted some, omega (arith, less, last-before scalars stream p (c .noted)))))
+      let less : offsetOf scalars (recordAt stream (p + 1)) < endOf scalars (recordAt stream (p + c .noted)) = below scalars stream (recordAt stream (p + 1)) (recordAt stream (p + c .noted)) up in
+      let long : eqb (endOf scalars (recordAt stream (p + c .noted)) - offsetOf scalars (recordAt stream (p + 1))) 0 ≡ false = ne-eqb (endOf scalars (recordAt stream (p + c .noted)) - offsetOf scalars (recordAt stream (p + 1))) 0 (apart _ _ less) in
+      rw (z, long) (own, (noted some, rejoined _ _ less ∙ sym (last-before scalars stream p (c .noted)))))
     where
       positive : (n : ℕ) → (n ≡ 0 → ⊥) → 0 < n
       positive n k = omega arith
+
+      apart : (a b : ℕ) → a < b → b - a ≡ 0 → ⊥
+      apart a b l e = absurd (omega arith)
+
+      rejoined : (a b : ℕ) → a < b → a + (b - a) ≡ b
+      rejoined a b l = omega arith
 
       own : Next (bytesBefore scalars stream p) (offsetOf scalars (c .index))
       own = subst (λ (i : ℕ). Next (bytesBefore scalars stream p) (offsetOf scalars i)) (sym e) (next p (omega arith))

@@ -40,7 +40,19 @@ none-left : (calls : List Parse) → length calls ≡ 0 → calls ≡ []
 none-left [] e = refl
 none-left (p ∷ ps) e = absurd (omega arith)
 
-module _ (parser : Parser) (mode : Mode) (t : Text) (scalars classes clusters : List ℕ) (cells : Columns) (n : ℕ) (tokens : n ≡ tokenCount mode parser t) where
+less-min : (a b m : ℕ) → b < m → min a b < m
+less-min a b m h = omega arith
+
+half-less : (b n k : ℕ) → b / 2 < n → n ≡ k → b < 2 * k
+half-less b n k h e = omega arith
+
+half-enough : (b n k : ℕ) → n ≤ b / 2 → n ≡ k → 2 * k ≤ b
+half-enough b n k h e = omega arith
+
+module _ (parser : Parser) (mode : Mode) (t : Text) (scalars classes clusters o l m n s e : List ℕ) (count room : ℕ) (tokens : count ≡ tokenCount mode parser t) (roomed : room ≡ min (length o) (min (length l) (min (length m) (min (length n) (min (length s) (length e)))))) where
+  abbrev cells : Columns
+  cells = record { offsets = o; lengths = l; noffsets = m; nlengths = n; starts = s; ends = e }
+
   abbrev stream : List ℕ
   stream = streamOf mode parser t
 
@@ -50,40 +62,43 @@ module _ (parser : Parser) (mode : Mode) (t : Text) (scalars classes clusters : 
   abbrev v : Verdict
   v = spanVerdict parser mode t scalars classes clusters cells
 
-  number : verdict parser t ≡ Accepted → n ≡ length stream
-  number e = tokens ∙ counted mode parser t ((streamed mode parser t e) .few)
+  number : verdict parser t ≡ Accepted → count ≡ length stream
+  number ok = tokens ∙ counted mode parser t ((streamed mode parser t ok) .few)
 
   -- Where the six columns are too short, the check refuses or 9 does.
-  crowds : shortestOf cells / 2 < n → v ≡ verdict parser t ⊳ Refused (refusal 9 Neither 0)
+  crowds : room / 2 < count → v ≡ verdict parser t ⊳ Refused (refusal 9 Neither 0)
   unfolding runVerdict
   crowds h = go (verdict parser t) refl
     where
       go : (w : Verdict) → verdict parser t ≡ w → w ⊳ roomFor (length stream) (min (shortest scalars classes clusters) (shortestOf cells)) ≡ w ⊳ Refused (refusal 9 Neither 0)
-      go (Refused q) e = refl
-      go Accepted e = let k : ltb (min (shortest scalars classes clusters) (shortestOf cells)) (2 * length stream) ≡ true = lt-ltb (min (shortest scalars classes clusters) (shortestOf cells)) (2 * length stream) (omega (arith, number e)) in rw k
+      go (Refused q) ok = refl
+      go Accepted ok = let k : ltb (min (shortest scalars classes clusters) (shortestOf cells)) (2 * length stream) ≡ true = lt-ltb (min (shortest scalars classes clusters) (shortestOf cells)) (2 * length stream) (less-min (shortest scalars classes clusters) (shortestOf cells) (2 * length stream) (subst (λ (b : ℕ). b < 2 * length stream) roomed (half-less room count (length stream) h (number ok)))) in rw k
 
-  pub ran-crowded : shortestOf cells / 2 < n → (r : RunAnswer) → r ≡ runUnder (verdict parser t ⊳ Refused (refusal 9 Neither 0)) [] → RanSpans parser mode t scalars classes clusters cells r scalars classes clusters cells
-  ran-crowded h r e = record { base = go (verdict parser t) v (crowds h) e .0; left = go (verdict parser t) v (crowds h) e .1 }
+  pub ran-crowded : room / 2 < count → (r : RunAnswer) → r ≡ runUnder (verdict parser t ⊳ Refused (refusal 9 Neither 0)) [] → RanSpans parser mode t scalars classes clusters cells r scalars classes clusters cells
+  ran-crowded h r er = record { base = go (verdict parser t) v (crowds h) er .0; left = go (verdict parser t) v (crowds h) er .1 }
     where
       go : (w u : Verdict) → u ≡ w ⊳ Refused (refusal 9 Neither 0) → r ≡ runUnder (w ⊳ Refused (refusal 9 Neither 0)) [] → Ran u calls scalars classes clusters r scalars classes clusters × (cells ≡ lefts u (columnsOf (t .records .scalars) stream 0 calls) cells)
       go Accepted u eu er = rw eu (record { answer = er; scalar = refl; class = refl; cluster = refl }, refl)
       go (Refused q) u eu er = rw eu (record { answer = er; scalar = refl; class = refl; cluster = refl }, refl)
 
   -- Else the run is segment's own.
-  suffices : n ≤ shortestOf cells / 2 → v ≡ runVerdict parser mode t (shortest scalars classes clusters)
+  enough : verdict parser t ≡ Accepted → count ≤ room / 2 → 2 * length stream ≤ shortestOf cells
+  enough ok h = subst (λ (b : ℕ). 2 * length stream ≤ b) roomed (half-enough room count (length stream) h (number ok))
+
+  suffices : count ≤ room / 2 → v ≡ runVerdict parser mode t (shortest scalars classes clusters)
   unfolding runVerdict
   suffices h = go (verdict parser t) refl
     where
       same : (a b m : ℕ) → m ≤ b → ltb (min a b) m ≡ ltb a m
-      same a b m l = by-test (ltb a m)
-          (λ e. lt-ltb (min a b) m (omega (arith, ltb-true a m e)) ∙ sym e)
-          (λ e. le-ltb (min a b) m (omega (arith, ltb-false a m e)) ∙ sym e)
+      same a b m k = by-test (ltb a m)
+          (λ z. lt-ltb (min a b) m (omega (arith, ltb-true a m z)) ∙ sym z)
+          (λ z. le-ltb (min a b) m (omega (arith, ltb-false a m z)) ∙ sym z)
 
       go : (w : Verdict) → verdict parser t ≡ w → w ⊳ roomFor (length stream) (min (shortest scalars classes clusters) (shortestOf cells)) ≡ w ⊳ roomFor (length stream) (shortest scalars classes clusters)
-      go (Refused q) e = refl
-      go Accepted e = ap (λ b. refuse b 9 Neither 0) (same (shortest scalars classes clusters) (shortestOf cells) (2 * length stream) (omega (arith, number e)))
+      go (Refused q) ok = refl
+      go Accepted ok = ap (λ b. refuse b 9 Neither 0) (same (shortest scalars classes clusters) (shortestOf cells) (2 * length stream) (enough ok h))
 
-  module _ (h : n ≤ shortestOf cells / 2) (r : RunAnswer) (scalars′ classes′ clusters′ : List ℕ) (ran : RanOf parser mode t scalars classes clusters r scalars′ classes′ clusters′) where
+  module _ (h : count ≤ room / 2) (r : RunAnswer) (scalars′ classes′ clusters′ : List ℕ) (ran : RanOf parser mode t scalars classes clusters r scalars′ classes′ clusters′) where
     base-is : Ran v calls scalars classes clusters r scalars′ classes′ clusters′
     base-is = subst (λ (u : Verdict). Ran u calls scalars classes clusters r scalars′ classes′ clusters′) (sym (suffices h)) ran
 
@@ -93,7 +108,7 @@ module _ (parser : Parser) (mode : Mode) (t : Text) (scalars classes clusters : 
     ran-none z = record { base = base-is; left = go v base-is }
       where
         empty : calls ≡ [] → cells ≡ lefts Accepted (columnsOf (t .records .scalars) stream 0 calls) cells
-        empty e = subst (λ ps. cells ≡ lefts Accepted (columnsOf (t .records .scalars) stream 0 ps) cells) (sym e) refl
+        empty z = subst (λ ps. cells ≡ lefts Accepted (columnsOf (t .records .scalars) stream 0 ps) cells) (sym z) refl
 
         go : (u : Verdict) → Ran u calls scalars classes clusters r scalars′ classes′ clusters′ → cells ≡ lefts u (columnsOf (t .records .scalars) stream 0 calls) cells
         go (Refused q) w = refl
@@ -103,12 +118,12 @@ module _ (parser : Parser) (mode : Mode) (t : Text) (scalars classes clusters : 
     is-accepted z = go v base-is refl
       where
         go : (u : Verdict) → Ran u calls scalars classes clusters r scalars′ classes′ clusters′ → v ≡ u → v ≡ Accepted
-        go Accepted w e = e
-        go (Refused q) w e = absurd (z (ap (λ (a : RunAnswer). a .clusters) (w .answer)))
+        go Accepted w k = k
+        go (Refused q) w k = absurd (z (ap (λ (a : RunAnswer). a .clusters) (w .answer)))
 
     check-accepted : v ≡ Accepted → verdict parser t ≡ Accepted
     unfolding runVerdict
-    check-accepted e = go (verdict parser t) refl e
+    check-accepted ok = go (verdict parser t) refl ok
       where
         go : (w : Verdict) → verdict parser t ≡ w → w ⊳ roomFor (length stream) (min (shortest scalars classes clusters) (shortestOf cells)) ≡ Accepted → verdict parser t ≡ Accepted
         go Accepted q k = q
@@ -118,7 +133,7 @@ module _ (parser : Parser) (mode : Mode) (t : Text) (scalars classes clusters : 
     ran-roomy z =
         let ok : verdict parser t ≡ Accepted = check-accepted (is-accepted z) in
         let held : Streamed mode parser t = streamed mode parser t ok in
-        record { streamed = held; fits = held .room; roomy = record { short = held .room; room = omega (arith, number ok) } }
+        record { streamed = held; fits = held .room; roomy = record { short = held .room; room = enough ok h } }
 
     pub ran-filled : (r .clusters ≡ 0 → ⊥) → (cells′ : Columns) → cells′ ≡ lefts Accepted (columnsOf (t .records .scalars) stream 0 calls) cells → RanSpans parser mode t scalars classes clusters cells r scalars′ classes′ clusters′ cells′
-    ran-filled z cells′ e = record { base = base-is; left = e ∙ ap (λ (u : Verdict). lefts u (columnsOf (t .records .scalars) stream 0 calls) cells) (sym (is-accepted z)) }
+    ran-filled z cells′ f = record { base = base-is; left = f ∙ ap (λ (u : Verdict). lefts u (columnsOf (t .records .scalars) stream 0 calls) cells) (sym (is-accepted z)) }

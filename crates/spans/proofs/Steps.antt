@@ -50,6 +50,10 @@ some-spannable s t a e n = subst (λ (b : Answer). Spannable s t (b .cluster) mo
           near = omega (arith, held .room);
         })
 
+-- the same over an array that holds the stream
+pub spans-by : (scalars stream cells : List ℕ) (at : ℕ) (c : Cluster) (r : Spans) → cells ≡ stream → r ≡ spansOf scalars cells at c → r ≡ spansOf scalars stream at c
+spans-by scalars stream cells at c r e h = h ∙ ap (λ l. spansOf scalars l at c) e
+
 -- the answer and the spans beside it
 module _ (s : Segmenter) (t : Text) (a : Answer) (e : a ≡ nextOf s t) where
   pub spanned-some : (r : Spans) → SpansAt s t (a .cluster) r → record { answer = a; spans = r } ≡ spanned s t

@@ -2,38 +2,27 @@ use Rattle.spans.proofs.Outcomes.{crowded-room, crowded-check}
 use borrow.Author.Needs.{needs}
 use Rattle.spans.proofs.runs.crowded.Statement.{statement}
 use Rattle.spans.proofs.runs.crowded.Tie as tie
-use Rattle.spans.proofs.runs.crowded.Reads as reads
-use Rattle.spans.proofs.runs.crowded.Lts as lts
-use Rattle.records.proofs.check_in.Reads as check-in-reads
-use Rattle.segment.proofs.RunAnswer.refused.Reads as refused-reads
 
--- src/runs.rt:46:9
 check-in-requires : tie.Need-check-in-requires
 check-in-requires c κs = search needs
 
--- src/runs.rt:47:26
 enum-known-verdict : tie.Need-enum-known-verdict
 enum-known-verdict c = search needs
 
--- src/runs.rt:50:19
 enum-told : tie.Need-enum-told
 enum-told c = search needs
 
--- src/runs.rt:48:9
 refused-requires : tie.Need-refused-requires
 refused-requires c κs = search needs
 
--- src/runs.rt:48:9
 returns : tie.Need-returns
 returns c = crowded-room _ _ _ (c .before .before .before .check-in .ensures) (c .before .enum-told .given .1) (c .refused .ensures)
 
--- src/runs.rt:54:5
 refused-requires-2 : tie.Need-refused-requires-2
 refused-requires-2 c κs = search needs
 
--- src/runs.rt:38:1
 returns-2 : tie.Need-returns-2
-returns-2 c = crowded-check _ _ _ _ (c .before .before .before .check-in .ensures) (c .before .verdict .given .1) (c .refused .ensures)
+returns-2 c = crowded-check _ _ _ _ (c .before .before .before .before .check-in .ensures) (c .before .before .verdict .given .1) (c .refused2 .ensures)
 
 pub crowded-spec : {M : Type 1} → statement M
 crowded-spec =
