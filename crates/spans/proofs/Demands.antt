@@ -129,7 +129,7 @@ module _ (parser : Parser) (mode : Mode) (t : Text) (accepted : verdict parser t
     once-join : (n place : ℕ) → place ≤ length stream → length stream ≤ place + n →
         Joins Next (bytesBefore scalars stream place) (onceStretches mode parser stream place (spanAnswers n (at parser mode place) t)) (bytesBefore scalars stream (length stream))
     unfolding spanAnswers onceStretches spanned found end
-    once-join zero place h l = ap (bytesBefore scalars stream) (omega arith)
+    once-join zero place h l = let e : place ≡ length stream = omega arith in ap (bytesBefore scalars stream) e
     once-join (suc n) place h l = by-test (ltb place (length stream))
         (λ e. let i : place < length stream = ltb-true place (length stream) e in
         rw (is-found (at parser mode place) t accepted i)
@@ -141,7 +141,7 @@ module _ (parser : Parser) (mode : Mode) (t : Text) (accepted : verdict parser t
     clusters-join : ((place : ℕ) → place < length stream → repeated mode parser stream place (clusterOf (called parser mode stream place)) ≡ false) → (n place : ℕ) → place ≤ length stream → length stream ≤ place + n →
         Joins Next (bytesBefore scalars stream place) (clusterStretches (spanAnswers n (at parser mode place) t)) (bytesBefore scalars stream (length stream))
     unfolding spanAnswers clusterStretches spanned found end spansOf
-    clusters-join none zero place h l = ap (bytesBefore scalars stream) (omega arith)
+    clusters-join none zero place h l = let e : place ≡ length stream = omega arith in ap (bytesBefore scalars stream) e
     clusters-join none (suc n) place h l = by-test (ltb place (length stream))
         (λ e. let i : place < length stream = ltb-true place (length stream) e in
         let p : Parse = called parser mode stream place in

@@ -35,13 +35,13 @@ write-requires : tie.Need-write-requires Inv-loop μ-loop
 write-requires c κs = fill-fits ((c .before .before .before .before .before .before .before .before .before .before .before .before .before .before .before .before .before .args) .parser) ((c .before .before .before .before .before .before .before .before .before .before .before .before .before .before .before .before .before .args) .mode) ((c .before .before .before .before .before .before .before .before .before .before .before .before .before .before .before .before .before .args) .scalars .now) ((c .before .before .before .before .before .before .before .before .before .before .before .before .before .before .before .before .before .args) .text .now) _ _ _ _ _ _ (c .before .before .before .before .before .before .before .before .before .before .before .before .before .before .before .before .before .pre) (c .before .before .before .before .before .before .before .before .loop .inv) (c .before .before .before .before .before .before .before .loop-test .taken) _ (c .before .before .before .before .before .before .call .ensures) _ ((c .before .before .before .before .spans .ensures) ∙ ap (λ (q : Cluster). spansOf ((c .before .before .before .before .before .before .before .before .before .before .before .before .before .before .before .before .before .args) .scalars .now) ((c .before .before .before .before .before .before .before .before .before .before .before .before .before .before .before .before .before .args) .text .now) (c .before .before .before .before .before .before .before .before .loop .at) q) (c .before .before .before .before .before .cluster .ensures))
 
 mul-starts : tie.Need-mul-starts Inv-loop μ-loop
-mul-starts c = search needs
+mul-starts c = omega (arith, (c .before .before .before .before .before .before .before .before .before .before .before .before .before .before .before .before .before .loop .inv .few), (c .before .before .before .before .before .before .before .before .before .before .before .before .before .before .before .before .before .loop .inv .inside), (c .before .before .before .before .before .before .before .before .before .before .before .before .before .before .before .before .before .before .before .before .before .before .before .before .before .before .pre .short))
 
 slice-write-starts : tie.Need-slice-write-starts Inv-loop μ-loop
 slice-write-starts c = omega (arith, fill-cell ((c .before .before .before .before .before .before .before .before .before .before .before .before .before .before .before .before .before .before .before .before .before .before .before .before .before .before .args) .parser) ((c .before .before .before .before .before .before .before .before .before .before .before .before .before .before .before .before .before .before .before .before .before .before .before .before .before .before .args) .mode) ((c .before .before .before .before .before .before .before .before .before .before .before .before .before .before .before .before .before .before .before .before .before .before .before .before .before .before .args) .scalars .now) ((c .before .before .before .before .before .before .before .before .before .before .before .before .before .before .before .before .before .before .before .before .before .before .before .before .before .before .args) .text .now) _ _ _ _ _ _ (c .before .before .before .before .before .before .before .before .before .before .before .before .before .before .before .before .before .before .before .before .before .before .before .before .before .before .pre) (c .before .before .before .before .before .before .before .before .before .before .before .before .before .before .before .before .before .loop .inv) (c .before .before .before .before .before .before .before .before .before .before .before .before .before .before .before .before .loop-test .taken) _ (c .before .before .before .before .before .before .before .before .before .before .before .before .before .before .before .call .ensures) .0)
 
 mul-ends : tie.Need-mul-ends Inv-loop μ-loop
-mul-ends c = search needs
+mul-ends c = omega (arith, (c .before .before .before .before .before .before .before .before .before .before .before .before .before .before .before .before .before .loop .inv .few), (c .before .before .before .before .before .before .before .before .before .before .before .before .before .before .before .before .before .loop .inv .inside), (c .before .before .before .before .before .before .before .before .before .before .before .before .before .before .before .before .before .before .before .before .before .before .before .before .before .before .pre .short))
 
 slice-write-ends : tie.Need-slice-write-ends Inv-loop μ-loop
 slice-write-ends c = omega (arith, fill-cell ((c .before .before .before .before .before .before .before .before .before .before .before .before .before .before .before .before .before .before .before .before .before .before .before .before .before .before .args) .parser) ((c .before .before .before .before .before .before .before .before .before .before .before .before .before .before .before .before .before .before .before .before .before .before .before .before .before .before .args) .mode) ((c .before .before .before .before .before .before .before .before .before .before .before .before .before .before .before .before .before .before .before .before .before .before .before .before .before .before .args) .scalars .now) ((c .before .before .before .before .before .before .before .before .before .before .before .before .before .before .before .before .before .before .before .before .before .before .before .before .before .before .args) .text .now) _ _ _ _ _ _ (c .before .before .before .before .before .before .before .before .before .before .before .before .before .before .before .before .before .before .before .before .before .before .before .before .before .before .pre) (c .before .before .before .before .before .before .before .before .before .before .before .before .before .before .before .before .before .loop .inv) (c .before .before .before .before .before .before .before .before .before .before .before .before .before .before .before .before .loop-test .taken) _ (c .before .before .before .before .before .before .before .before .before .before .before .before .before .before .before .call .ensures) .1)
