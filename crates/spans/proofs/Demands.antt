@@ -51,7 +51,7 @@ use Rattle.spans.specs.declared.SpanAnswer.{SpanAnswer}
 use Rattle.spans.specs.Offsets.{offsetOf, lengthOf, endOf}
 use Rattle.spans.specs.Spans.{recordAt, spanOf, spansFrom, startOf, endFrom, celled, spansOf, spanned}
 use Rattle.spans.specs.Runs.{Columns, columnsOf, lefts, shortestOf, spansIn, startsIn, endsIn, RanSpans}
-use Rattle.spans.specs.Joined.{spanAnswers, Stretch, stretches, characterStretches, clusterStretches, onceStretches, allSpans, startIn, endIn, Joins, Meets, Shares, MeetsOrShares}
+use Rattle.spans.specs.Joined.{spanAnswers, Stretch, stretches, characterStretches, clusterStretches, onceIn, onceStretches, allSpans, startIn, endIn, Joins, Meets, Shares, MeetsOrShares}
 use Rattle.spans.proofs.Counting.{offset-next, offset-most}
 use Rattle.spans.proofs.Along.{spans-length}
 use Rattle.spans.proofs.Steps.{noSpans, none-spanned}
@@ -110,8 +110,11 @@ module _ (parser : Parser) (mode : Mode) (t : Text) (accepted : verdict parser t
   module _ (Next : ℕ → ℕ → Type 0)
       (next : (p : ℕ) → p < length stream → Next (bytesBefore scalars stream p) (offsetOf scalars (recordAt stream p)))
       (rises : (p k : ℕ) → p + k < length stream → recordAt stream p ≤ recordAt stream (p + k)) where
+    abbrev onceOf : ℕ → List Stretch
+    onceOf place = stretches (take (onceIn mode parser stream place (clusterOf (called parser mode stream place))) ((spansOf scalars stream place (clusterOf (called parser mode stream place))) .chars))
+
     once-call : (place : ℕ) → place < length stream → Joins Next (bytesBefore scalars stream place)
-        (stretches (take (cond (repeated mode parser stream place (clusterOf (called parser mode stream place))) ((called parser mode stream place) .len - 1) ((called parser mode stream place) .len)) ((spansOf scalars stream place (clusterOf (called parser mode stream place))) .chars)))
+        (onceOf place)
         (bytesBefore scalars stream (placeOf stream (called parser mode stream place)))
     once-call place i =
         let p : Parse = called parser mode stream place in
@@ -132,8 +135,9 @@ module _ (parser : Parser) (mode : Mode) (t : Text) (accepted : verdict parser t
     once-join zero place h l = let e : place ≡ length stream = omega arith in ap (bytesBefore scalars stream) e
     once-join (suc n) place h l = by-test (ltb place (length stream))
         (λ e. let i : place < length stream = ltb-true place (length stream) e in
+        let p : Parse = called parser mode stream place in
         rw (is-found (at parser mode place) t accepted i)
-        (joins-append Next _ _ _ _ _ (once-call place i) (once-join n (placeOf stream (called parser mode stream place)) (call-within parser mode stream short place i) (omega (arith, progress parser mode stream short place i)))))
+        (joins-append Next (onceOf place) (onceStretches mode parser stream (placeOf stream p) (spanAnswers n (at parser mode (placeOf stream p)) t)) (bytesBefore scalars stream place) (bytesBefore scalars stream (placeOf stream p)) (bytesBefore scalars stream (length stream)) (once-call place i) (once-join n (placeOf stream (called parser mode stream place)) (call-within parser mode stream short place i) (omega (arith, progress parser mode stream short place i)))))
         (λ e. let i : place ≡ length stream = omega (arith, ltb-false place (length stream) e) in
         rw (step-ends (at parser mode place) t accepted i) (ap (bytesBefore scalars stream) i))
 
