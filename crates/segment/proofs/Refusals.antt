@@ -50,7 +50,7 @@ module _ (s : Segmenter) (t : Text) where
 
 -- # The full run
 
-under-verdict : (v : Verdict) (calls : List Parse) → (runUnder v calls) .verdict ≡ v
+pub under-verdict : (v : Verdict) (calls : List Parse) → (runUnder v calls) .verdict ≡ v
 under-verdict Accepted calls = refl
 under-verdict (Refused r) calls = refl
 

@@ -39,7 +39,7 @@ abbrev pub unrepeated : Mode → Parser → List ℕ → ℕ → Cluster → Lis
 unrepeated mode parser stream at c = cond (repeated mode parser stream at c) (butLast c) (charactersOf c)
 
 -- what a call that finds a cluster is followed by
-abbrev pub whenFound : What → List Answer → List Answer
+abbrev pub whenFound : {A : Type 0} → What → List A → List A
 whenFound Found later = later
 whenFound Over later = []
 whenFound (Refused r) later = []

@@ -1,10 +1,10 @@
 -- The records of the tokens, one after the other: where each record has a token they go up by one at most, from the first record to the
 -- last. Assumes nothing.
 use Prim.Native.Nat.{ℕ, zero, suc, _+_, _<_, _≤_}
-use mathlib.Core.Path.{_≡_, refl, sym, _∙_, ap, subst}
-use mathlib.Core.Bool.{true, false}
+use mathlib.Core.Path.{_≡_, refl, sym, ap, subst}
+use mathlib.Core.Bool.{false}
 use mathlib.Core.List.{List, [], _∷_, _++_}
-use mathlib.Core.Logic.{_⊎_, inl, inr, ⊎-elim}
+use mathlib.Core.Logic.{_⊎_, inl, inr}
 use native.Mathlib.Omega.{arith}
 use native.Mathlib.Nat.{le-of-eq, zero-add}
 use lib.ListN.{length, getD}
@@ -16,7 +16,7 @@ use Rattle.records.specs.Refusals.{isComplex}
 use Rattle.records.specs.declared.Parser.{Parser}
 use Rattle.records.specs.declared.Parser.the-variants.{Simple, Myanmar, Complex, Khmer}
 use Rattle.records.proofs.Passing.{not-so}
-use Rattle.stream.specs.Stream.{sourceOf, itself, gather, gives, streamOf}
+use Rattle.stream.specs.Stream.{itself, gather, gives, streamOf}
 use Rattle.stream.proofs.Alone.{given-index, gives-some}
 use Rattle.spans.specs.Spans.{recordAt}
 

@@ -6,8 +6,8 @@ use mathlib.Core.List.{List}
 use native.Mathlib.Omega.{arith}
 use native.Mathlib.Numerals.{add-one}
 use lib.Dec.{ltb}
-use borrow.Author.Tests.{ltb-true, ltb-false}
-use Rattle.basics.proofs.Tests.{by-test, if-intro}
+use borrow.Author.Tests.{ltb-false}
+use Rattle.basics.proofs.Tests.{if-intro}
 use Rattle.records.specs.Text.{cell}
 use Rattle.spans.specs.declared.offsets.Counted.{Counted}
 use Rattle.spans.specs.Offsets.{bytesOf, offsetOf, lengthOf, endOf}

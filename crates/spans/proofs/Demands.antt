@@ -1,18 +1,16 @@
 -- The sentences of SCOPE 12.7 as theorems, over the public answers. Assumes nothing.
-use Prim.Native.Nat.{ℕ, zero, suc, _+_, _-_, _*_, _<_, _≤_, min}
+use Prim.Native.Nat.{ℕ, zero, suc, _+_, _-_, _<_, _≤_, min}
 use mathlib.Core.Path.{_≡_, refl, sym, _∙_, ap, subst}
 use mathlib.Core.Bool.{Bool, true, false, cond}
 use mathlib.Core.List.{List, [], _∷_, _++_, map}
-use mathlib.Core.Logic.{_⊎_, inl, inr, ⊎-elim}
+use mathlib.Core.Logic.{inl, inr, ⊎-elim}
 use native.Mathlib.Omega.{arith}
 use lib.Dec.{ltb}
-use lib.ListN.{length, take, drop, getD, replicate}
-use lib.Seq.{take-at, take-all}
+use lib.ListN.{length, take, getD}
 use borrow.Author.Tests.{ltb-true, ltb-false}
 use Rattle.basics.proofs.Tests.{by-test, if-intro}
 use Rattle.classes.specs.declared.Mode.{Mode}
 use Rattle.classes.specs.declared.Mode.the-variants.{Crate, Whole}
-use Rattle.token.specs.Token.{indexOf}
 use Rattle.records.specs.Text.{Text}
 use Rattle.records.specs.Refusals.{_⊳_, verdict, isComplex}
 use Rattle.records.specs.Offences.{tableOf, ByTable, Asks}
@@ -33,25 +31,23 @@ use Rattle.parse.specs.State.{tokenAt, placeOf, clusterOf, emptyCluster}
 use Rattle.parse.specs.Cover.{IsOf, Covers, pushed, charactersOf}
 use Rattle.segment.specs.declared.Segmenter.{Segmenter}
 use Rattle.segment.specs.declared.What.the-variants.{Found}
-use Rattle.segment.specs.declared.Answer.{Answer}
 use Rattle.segment.specs.declared.RunAnswer.{RunAnswer}
 use Rattle.segment.specs.Calls.{nextOf, called, found, end}
 use Rattle.segment.specs.Met.{roomLine}
-use Rattle.segment.specs.Runs.{callsFrom, callsOf, shortest, roomFor, runVerdict, runUnder, Ran}
+use Rattle.segment.specs.Runs.{callsFrom, callsOf, shortest, roomFor, runVerdict, Ran}
 use Rattle.segment.specs.Repeats.{repeated, unrepeated}
 use Rattle.segment.proofs.CallLaws.{streamed}
 use Rattle.segment.proofs.Progress.{progress}
-use Rattle.segment.proofs.CallTurns.{call-within, call-most, call-length}
+use Rattle.segment.proofs.CallTurns.{call-within, call-length}
 use Rattle.segment.proofs.Coverage.{tokens, accepted-short, call-some}
 use Rattle.segment.proofs.Repeats.{call-unrepeated}
+use Rattle.segment.proofs.Refusals.{under-verdict}
 use Rattle.segment.proofs.Demands.{at, is-found, step-ends, step-keeps, step-distance, step-passes, step-once, step-some}
-use Rattle.spans.specs.declared.Span.{Span}
-use Rattle.spans.specs.declared.Spans.{Spans}
 use Rattle.spans.specs.declared.SpanAnswer.{SpanAnswer}
 use Rattle.spans.specs.Offsets.{offsetOf, lengthOf, endOf}
 use Rattle.spans.specs.Spans.{recordAt, spanOf, spansFrom, startOf, endFrom, celled, spansOf, spanned}
 use Rattle.spans.specs.Runs.{Columns, columnsOf, lefts, shortestOf, spansIn, startsIn, endsIn, RanSpans}
-use Rattle.spans.specs.Joined.{spanAnswers, Stretch, stretches, characterStretches, clusterStretches, onceIn, onceStretches, allSpans, startIn, endIn, Joins, Meets, Shares, MeetsOrShares}
+use Rattle.spans.specs.Joined.{spanAnswers, Stretch, stretches, characterStretches, clusterStretches, onceIn, onceStretches, allSpans, startIn, endIn, Joins, Meets, MeetsOrShares}
 use Rattle.spans.proofs.Counting.{offset-next, offset-most}
 use Rattle.spans.proofs.Along.{spans-length}
 use Rattle.spans.proofs.Steps.{noSpans, none-spanned}
@@ -309,10 +305,6 @@ module _ (s : Segmenter) (t : Text) (accepted : verdict (s .parser) t ≡ Accept
 -- # What the contracts shut out
 
 -- The refusals of a full run: 1 to 7 and 9, by the table, where 9 is by the shortest of the nine columns; with a refusal no column changes.
-under-verdict : (v : Verdict) (calls : List Parse) → (runUnder v calls) .verdict ≡ v
-under-verdict Accepted calls = refl
-under-verdict (Refused r) calls = refl
-
 module _ (parser : Parser) (mode : Mode) (t : Text) (scalars classes clusters : List ℕ) (cells : Columns) (r : RunAnswer) (scalars′ classes′ clusters′ : List ℕ) (cells′ : Columns) (ran : RanSpans parser mode t scalars classes clusters cells r scalars′ classes′ clusters′ cells′) where
   abbrev room : ℕ
   room = min (shortest scalars classes clusters) (shortestOf cells)

@@ -5,7 +5,7 @@ use mathlib.Core.Bool.{Bool, true, false, cond}
 use mathlib.Core.List.{List, [], _∷_, _++_}
 use native.Mathlib.Omega.{arith}
 use lib.Dec.{ltb}
-use lib.ListN.{length, take, getD, length-append}
+use lib.ListN.{length, take, length-append}
 use lib.Seq.{take-suc}
 use Rattle.records.specs.Text.{cell}
 use Rattle.spans.specs.Offsets.{bytesOf, offsetOf}

@@ -10,7 +10,6 @@ use Rattle.classes.specs.declared.Mode.{Mode}
 use Rattle.records.specs.declared.Parser.{Parser}
 use Rattle.records.specs.declared.Verdict.the-variants.{Accepted}
 use Rattle.parse.specs.declared.Parse.{Parse}
-use Rattle.parse.specs.declared.Pushed.{Pushed}
 use Rattle.parse.specs.State.{placeOf, clusterOf}
 use Rattle.parse.specs.Cover.{pushed, charactersOf}
 use Rattle.segment.specs.Calls.{called}

@@ -1,20 +1,19 @@
 -- Spans that join: of characters that are the tokens of a stream in its order, one after the other. Assumes nothing.
-use Prim.Native.Nat.{ℕ, zero, suc, _+_, _-_, _<_, _≤_}
-use mathlib.Core.Path.{_≡_, refl, sym, _∙_, ap, subst}
-use mathlib.Core.Bool.{Bool, true, false, cond}
+use Prim.Native.Nat.{ℕ, suc, _+_, _-_, _<_, _≤_}
+use mathlib.Core.Path.{_≡_, sym, _∙_, ap, subst}
+use mathlib.Core.Bool.{false}
 use mathlib.Core.List.{List, [], _∷_, _++_}
 use native.Mathlib.Omega.{arith}
 use native.Mathlib.Numerals.{add-one}
 use lib.Dec.{eqb}
-use lib.ListN.{length, getD}
-use borrow.Author.Tests.{eqb-true, eqb-false, eq-eqb, ne-eqb}
+use lib.ListN.{length}
+use borrow.Author.Tests.{eqb-true, eqb-false, ne-eqb}
 use Rattle.basics.proofs.Tests.{by-test}
 use Rattle.parse.specs.declared.Pushed.{Pushed}
-use Rattle.parse.specs.State.{tokenAt, nothing}
-use Rattle.parse.specs.Cover.{IsOf, Covers}
+use Rattle.parse.specs.State.{tokenAt}
+use Rattle.parse.specs.Cover.{Covers}
 use Rattle.parse.proofs.Covered.{cover-count}
 use Rattle.records.specs.Text.{cell}
-use Rattle.spans.specs.declared.Span.{Span}
 use Rattle.spans.specs.Offsets.{offsetOf, lengthOf, endOf}
 use Rattle.spans.specs.Spans.{recordAt, lastRecord, spanOf, spansFrom, startOf, endFrom}
 use Rattle.spans.specs.Joined.{Stretch, ownOf, notesOf, stretches, Joins}

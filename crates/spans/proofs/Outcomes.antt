@@ -1,7 +1,7 @@
 -- How a full run with spans comes out: refused for the six columns, or segment's own run and the columns filled. Assumes nothing.
-use Prim.Native.Nat.{ℕ, _+_, _*_, _/_, _<_, _≤_, min}
+use Prim.Native.Nat.{ℕ, _*_, _/_, _<_, _≤_, min}
 use mathlib.Core.Path.{_≡_, refl, sym, _∙_, ap, subst}
-use mathlib.Core.Bool.{Bool, true, false}
+use mathlib.Core.Bool.{true}
 use mathlib.Core.List.{List, [], _∷_}
 use native.Mathlib.Omega.{arith}
 use lib.Dec.{ltb}
@@ -23,7 +23,7 @@ use Rattle.segment.specs.Runs.{callsOf, shortest, roomFor, runVerdict, runUnder
 use Rattle.segment.specs.Inner.{Streamed, tokenCount}
 use Rattle.segment.proofs.CallLaws.{streamed, counted}
 use Rattle.spans.specs.Runs.{Columns, columnsOf, lefts, shortestOf, spanVerdict, spansIn, startsIn, endsIn, RanSpans}
-use Rattle.spans.specs.Inner.{Roomy, RoomyIn}
+use Rattle.spans.specs.Inner.{RoomyIn}
 
 -- the shortest of six
 pub shortest-is : (a b c d e f p q r s t : ℕ) → p ≡ min e f → q ≡ min d p → r ≡ min c q → s ≡ min b r → t ≡ min a s → t ≡ min a (min b (min c (min d (min e f))))

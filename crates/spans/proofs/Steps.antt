@@ -1,5 +1,5 @@
 -- A stepping call with spans: what its code rests on. Assumes nothing.
-use Prim.Native.Nat.{ℕ, _≤_, _<_}
+use Prim.Native.Nat.{ℕ, _≤_}
 use mathlib.Core.Path.{_≡_, refl, sym, _∙_, ap, subst}
 use mathlib.Core.List.{List}
 use native.Mathlib.Omega.{arith}
@@ -8,7 +8,6 @@ use Rattle.records.specs.Text.{Text}
 use Rattle.stream.specs.Stream.{mostTokens}
 use Rattle.parse.specs.declared.Cluster.{Cluster}
 use Rattle.parse.specs.State.{emptyCluster}
-use Rattle.parse.specs.Cover.{charactersOf}
 use Rattle.segment.specs.declared.Segmenter.{Segmenter}
 use Rattle.segment.specs.declared.Answer.{Answer}
 use Rattle.segment.specs.Calls.{nextOf, called, refused, end, found}
@@ -16,9 +15,7 @@ use Rattle.segment.specs.Inner.{Streamed}
 use Rattle.segment.proofs.CallLaws.{streamed}
 use Rattle.segment.proofs.CallTurns.{call-most, call-length}
 use Rattle.segment.proofs.Coverage.{tokens, next-case, accepted-short}
-use Rattle.spans.specs.declared.Span.{Span}
 use Rattle.spans.specs.declared.Spans.{Spans}
-use Rattle.spans.specs.declared.SpanAnswer.{SpanAnswer}
 use Rattle.spans.specs.Offsets.{offsetOf}
 use Rattle.spans.specs.Spans.{spansFrom, endFrom, noSpan, spansOf, spanned}
 use Rattle.spans.specs.Inner.{Spannable, SpansAt}

@@ -11,9 +11,7 @@ use Rattle.records.specs.Text.{Text}
 use Rattle.records.specs.declared.Parser.{Parser}
 use Rattle.parse.specs.declared.Cluster.{Cluster}
 use Rattle.segment.specs.declared.Segmenter.{Segmenter}
-use Rattle.segment.specs.declared.What.{What}
-use Rattle.segment.specs.Repeats.{repeated}
-use Rattle.segment.specs.declared.What.the-variants.{Found, Over, Refused}
+use Rattle.segment.specs.Repeats.{repeated, whenFound}
 use Rattle.spans.specs.declared.Span.{Span}
 use Rattle.spans.specs.declared.SpanAnswer.{SpanAnswer}
 use Rattle.spans.specs.Offsets.{offsetOf, endOf}
@@ -21,11 +19,6 @@ use Rattle.spans.specs.Spans.{spanned}
 
 -- the answers of the stepping calls with spans, from a state on, each from the state that the one before handed back, up to the first that
 -- finds no cluster; n at most
-abbrev pub whenFound : What → List SpanAnswer → List SpanAnswer
-whenFound Found later = later
-whenFound Over later = []
-whenFound (Refused r) later = []
-
 unfoldable pub spanAnswers : ℕ → Segmenter → Text → List SpanAnswer
 spanAnswers zero s t = []
 spanAnswers (suc n) s t =

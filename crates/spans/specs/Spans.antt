@@ -14,7 +14,6 @@ use Rattle.parse.specs.declared.Cluster.{Cluster}
 use Rattle.parse.specs.State.{tokenAt, nothing}
 use Rattle.parse.specs.Cover.{charactersOf}
 use Rattle.segment.specs.declared.Segmenter.{Segmenter}
-use Rattle.segment.specs.declared.Answer.{Answer}
 use Rattle.segment.specs.Calls.{nextOf}
 use Rattle.spans.specs.declared.Span.{Span}
 use Rattle.spans.specs.declared.Spans.{Spans}
