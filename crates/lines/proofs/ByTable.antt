@@ -7,7 +7,7 @@ use mathlib.Core.List.{List, [], _∷_}
 use lib.Dec.{leb, ltb}
 use lib.ListN.{length}
 use Rattle.records.specs.Text.{cell}
-use Rattle.records.specs.Refusals.{refuse, _⊳_, over, tooLong, uneven, judgeLengths}
+use Rattle.records.specs.Refusals.{refuse, _⊳_, over, tooLong, uneven, judgeLengths, judgeThree}
 use Rattle.records.specs.Offences.{line, ByTable}
 use Rattle.records.specs.declared.Side.the-variants.{Record, Neither}
 use Rattle.records.specs.declared.Verdict.{Verdict}
@@ -72,7 +72,7 @@ five false false false d Accepted = sym (alone (refuse d 9 Neither 0))
 
 -- The run's refusals: 1, 2, 10, 4 and 9, in this order.
 pub line-run-by-table : (table lines words pictographs : List ℕ) (room : ℕ) → ByTable (1 ∷ 2 ∷ 10 ∷ 4 ∷ 9 ∷ []) (runTable table lines words pictographs room) (runVerdict table lines words pictographs room)
-unfolding runVerdict checkVerdict judgeLengths judgeRecord over
+unfolding runVerdict checkVerdict judgeLengths judgeThree over
 line-run-by-table table lines words pictographs room =
     by-table _ (runTable table lines words pictographs room) (record { before = refl; parts = λ i. refl; records = λ i. refl; after = refl })
     (runVerdict table lines words pictographs room)
