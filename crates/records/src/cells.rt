@@ -65,6 +65,12 @@ pub fn joined(a: u32, b: u32) -> u32
     a | b
 }
 
+pub fn joined8(a: u8, b: u8) -> u8
+    ensures { λ r. ⌜ r ≡ bitOr a b ⌝ }
+{
+    a | b
+}
+
 // The first n cells, or the whole column where it has fewer.
 pub fn first8(column: &[u8], n: usize) -> &[u8]
     ensures { λ r. ⌜ now r ≡ take n (now (column .entry)) ⌝ }

@@ -1,6 +1,7 @@
 // The check by columns: whether nothing but a sign can be refused. A text that fails here is judged record by record.
 use crate::MOST;
 use crate::cells::joined;
+use crate::cells::joined8;
 use crate::cells::length32;
 use crate::judge::bad_scalar;
 use classes::category;
@@ -11,58 +12,60 @@ use classes::use_class;
 use classes::word_break;
 ghost use mathlib.Core.Path.{_≡_};
 ghost use mathlib.Core.Bool.{true, false};
-ghost use Prim.Native.Nat.{_+_, _≤_};
+ghost use Prim.Native.Nat.{_+_, _<_, _≤_};
 ghost use lib.Dec.{leb};
 ghost use Rattle.records.specs.Text.{lent};
 ghost use Rattle.records.specs.Refusals.{markedVerdict};
 ghost use Rattle.records.specs.declared.Verdict.the-variants.{Accepted};
-ghost use Rattle.records.specs.Sweep.{AtMost, CleanScalar, CleanScalars, Below, EndsBy, Passes};
+ghost use Rattle.records.specs.Sweep.{CleanScalar, CleanScalars, zeros, Inside, SixBelow, Below, EndsBy, Passes};
 
-// What each column of bytes stays below; 4 for the counts of parts.
-const LIMITS: [u8; 15] = [
-    cluster_break::LEN,
-    use_class::LEN,
-    myanmar_class::LEN,
-    category::LEN,
-    word_break::LEN,
-    2,
-    2,
-    2,
-    2,
-    2,
-    2,
-    4,
-    cluster_break::LEN,
-    use_class::LEN,
-    category::LEN,
-];
+// Six codes, or what six codes stay below.
+pub struct Six {
+    pub a: u8,
+    pub b: u8,
+    pub c: u8,
+    pub d: u8,
+    pub e: u8,
+    pub f: u8,
+}
+
+// What the columns of classes stay below, and the counts of parts.
+const CLASSES: Six = Six {
+    a: cluster_break::LEN,
+    b: use_class::LEN,
+    c: myanmar_class::LEN,
+    d: category::LEN,
+    e: word_break::LEN,
+    f: 4,
+};
+
+// The marks.
+const MARKS: Six = Six {
+    a: 2,
+    b: 2,
+    c: 2,
+    d: 2,
+    e: 2,
+    f: 2,
+};
+
+// The parts' three columns, each of them twice.
+const PARTS: Six = Six {
+    a: cluster_break::LEN,
+    b: use_class::LEN,
+    c: category::LEN,
+    d: cluster_break::LEN,
+    e: use_class::LEN,
+    f: category::LEN,
+};
 
 // A shorter text is judged record by record: there the loops over the columns cost more to begin and to end than they save.
-const SHORT: usize = 16;
-
-fn larger8(a: u8, b: u8) -> u8
-    ensures { λ r. ⌜ (a ≤ r) × (b ≤ r) ⌝ }
-{
-    if a < b { b } else { a }
-}
+const SHORT: usize = 4;
 
 fn larger32(a: u32, b: u32) -> u32
     ensures { λ r. ⌜ (a ≤ r) × (b ≤ r) ⌝ }
 {
     if a < b { b } else { a }
-}
-
-// No cell is above this.
-fn greatest8(column: &[u8]) -> u8
-    ensures { λ r. ⌜ AtMost (now (column .entry)) r ⌝ }
-{
-    let mut most: u8 = 0;
-    let mut i: usize = 0;
-    while i < column.len() {
-        most = larger8(most, column[i]);
-        i += 1;
-    }
-    most
 }
 
 fn end_of(first: u16, count: u8) -> u32
@@ -93,6 +96,28 @@ fn ends_by(firsts: &[u16], counts: &[u8], parts: usize) -> bool
     at_most(most, parts)
 }
 
+// Whether one of five lengths is not n.
+fn differs(n: usize, b: usize, c: usize, d: usize, e: usize, f: usize) -> bool
+    ensures { λ r. ⌜ (r ≡ false → (b ≡ n) × (c ≡ n) × (d ≡ n) × (e ≡ n) × (f ≡ n)) ⌝ }
+{
+    if b != n {
+        return true;
+    }
+    if c != n {
+        return true;
+    }
+    if d != n {
+        return true;
+    }
+    if e != n {
+        return true;
+    }
+    if f != n {
+        return true;
+    }
+    false
+}
+
 // 0 for a clean scalar, else 1: one that is refused, or U+034F, which some classes bar. (A number, so that the loop below has no branch.)
 fn oddness(x: u32) -> u32
     ensures { λ r. ⌜ (r ≡ 0 → CleanScalar x) ⌝ }
@@ -118,18 +143,92 @@ fn clean_scalars(column: &[u32]) -> bool
     odd == 0
 }
 
-fn below<'s, 'a>(bytes: &'s [&'a [u8]; 15]) -> bool
-    ensures { λ r. ⌜ (r ≡ true → Below (now (bytes .entry)) 15) ⌝ }
+// 0 for a code below its limit, else 1.
+fn outside(code: u8, limit: u8) -> u8
+    ensures { λ r. ⌜ (r ≡ 0 → code < limit) ⌝ }
 {
-    let limits = LIMITS;
-    let mut k: usize = 0;
-    while k < 15 {
-        if limits[k] <= greatest8(bytes[k]) {
-            return false;
-        }
-        k += 1;
+    if code < limit { 0 } else { 1 }
+}
+
+// What is odd so far, and a code more.
+fn also(odd: u8, code: u8, limit: u8) -> u8
+    ensures { λ r. ⌜ (r ≡ 0 → (odd ≡ 0) × (code < limit)) ⌝ }
+{
+    joined8(odd, outside(code, limit))
+}
+
+fn also_six(odd: u8, codes: Six, limits: Six) -> u8
+    ensures { λ r. ⌜ (r ≡ 0 → (odd ≡ 0) × Inside codes limits) ⌝ }
+{
+    let a = also(odd, codes.a, limits.a);
+    let b = also(a, codes.b, limits.b);
+    let c = also(b, codes.c, limits.c);
+    let d = also(c, codes.d, limits.d);
+    let e = also(d, codes.e, limits.e);
+    also(e, codes.f, limits.f)
+}
+
+// Whether six columns stay below their limits: one loop for all of them, since at a label it is the beginning and the end of a loop that
+// cost.
+fn six_below(limits: Six, a: &[u8], b: &[u8], c: &[u8], d: &[u8], e: &[u8], f: &[u8]) -> bool
+    requires { ⌜ Inside zeros limits ⌝ }
+    ensures { λ r. ⌜ (r ≡ true → SixBelow limits (now (a .entry)) (now (b .entry)) (now (c .entry)) (now (d .entry)) (now (e .entry)) (now (f .entry))) ⌝ }
+{
+    let n = a.len();
+    if differs(n, b.len(), c.len(), d.len(), e.len(), f.len()) {
+        return false;
     }
-    true
+    let mut odd: u8 = 0;
+    let mut i: usize = 0;
+    while i < n {
+        let codes = Six {
+            a: a[i],
+            b: b[i],
+            c: c[i],
+            d: d[i],
+            e: e[i],
+            f: f[i],
+        };
+        odd = also_six(odd, codes, limits);
+        i += 1;
+    }
+    odd == 0
+}
+
+fn below<'s, 'a>(bytes: &'s [&'a [u8]; 15]) -> bool
+    ensures { λ r. ⌜ (r ≡ true → Below (now (bytes .entry))) ⌝ }
+{
+    if !six_below(
+        CLASSES,
+        bytes[0],
+        bytes[1],
+        bytes[2],
+        bytes[3],
+        bytes[4],
+        bytes[11],
+    ) {
+        return false;
+    }
+    if !six_below(
+        MARKS,
+        bytes[5],
+        bytes[6],
+        bytes[7],
+        bytes[8],
+        bytes[9],
+        bytes[10],
+    ) {
+        return false;
+    }
+    six_below(
+        PARTS,
+        bytes[12],
+        bytes[13],
+        bytes[14],
+        bytes[12],
+        bytes[13],
+        bytes[14],
+    )
 }
 
 pub fn passes<'s, 'a>(
@@ -152,6 +251,12 @@ pub fn passes<'s, 'a>(
         return false;
     }
     ends_by(firsts, bytes[11], length32(wides[1]))
+}
+
+fn larger8(a: u8, b: u8) -> u8
+    ensures { λ r. ⌜ (a ≤ r) × (b ≤ r) ⌝ }
+{
+    if a < b { b } else { a }
 }
 
 // Whether nothing can be refused of a column of classes, of a list of this length, and one of marks.

@@ -1,60 +1,111 @@
-use Rattle.records.specs.Sweep.{Below}
-use Rattle.records.proofs.Passing.{not-so, below-more}
-use Prim.Native.Nat.{_-_, _≤_}
-use native.Mathlib.Omega.{arith}
+use Rattle.records.proofs.Passing.{not-so}
+use borrow.Author.Tests.{not-false}
 use borrow.Author.Needs.{needs}
 use Rattle.records.proofs.columns.below.Statement.{statement}
 use Rattle.records.proofs.columns.below.Tie as tie
 
-abbrev Inv-loop : tie.InvT-loop
-Inv-loop bytes limits k₀ k = (k ≤ 15) × Below bytes k
+element-copy-out-six-below : tie.Need-element-copy-out-six-below
+element-copy-out-six-below c = search needs
 
-abbrev μ-loop : tie.MeasureT-loop
-μ-loop bytes limits k₀ k = 15 - k
+element-copy-out-six-below-2 : tie.Need-element-copy-out-six-below-2
+element-copy-out-six-below-2 c = search needs
 
-loop-holds : tie.Need-loop-holds Inv-loop μ-loop
-loop-holds c = (omega arith, λ j h. absurd (omega arith))
+element-copy-out-six-below-3 : tie.Need-element-copy-out-six-below-3
+element-copy-out-six-below-3 c = search needs
 
-array-read-if1 : tie.Need-array-read-if1 Inv-loop μ-loop
-array-read-if1 c = search needs
+element-copy-out-six-below-4 : tie.Need-element-copy-out-six-below-4
+element-copy-out-six-below-4 c = search needs
 
-mul-greatest8 : tie.Need-mul-greatest8 Inv-loop μ-loop
-mul-greatest8 c = search needs
+element-copy-out-six-below-5 : tie.Need-element-copy-out-six-below-5
+element-copy-out-six-below-5 c = search needs
 
-element-copy-out-greatest8 : tie.Need-element-copy-out-greatest8 Inv-loop μ-loop
-element-copy-out-greatest8 c = search needs
+element-copy-out-six-below-6 : tie.Need-element-copy-out-six-below-6
+element-copy-out-six-below-6 c = search needs
 
-greatest8-requires : tie.Need-greatest8-requires Inv-loop μ-loop
-greatest8-requires c κs = search needs
+six-below-requires : tie.Need-six-below-requires
+six-below-requires c κs = search needs
 
-returns : tie.Need-returns Inv-loop μ-loop
+returns : tie.Need-returns
 returns c = λ e. not-so e
 
-add-k : tie.Need-add-k Inv-loop μ-loop
-add-k c = search needs
+element-copy-out-six-below-7 : tie.Need-element-copy-out-six-below-7
+element-copy-out-six-below-7 c = search needs
 
-loop-less : tie.Need-loop-less Inv-loop μ-loop
-loop-less c = search needs
+element-copy-out-six-below-8 : tie.Need-element-copy-out-six-below-8
+element-copy-out-six-below-8 c = search needs
 
-loop-again : tie.Need-loop-again Inv-loop μ-loop
-loop-again c = (omega arith, below-more (c .before .before .before .before .before .args .bytes .now) _ _ (c .before .before .before .before .loop .inv .1) (c .before .greatest8 .ensures) (omega arith))
+element-copy-out-six-below-9 : tie.Need-element-copy-out-six-below-9
+element-copy-out-six-below-9 c = search needs
 
-returns-2 : tie.Need-returns-2 Inv-loop μ-loop
-returns-2 c = λ e j h. c .before .loop .inv .1 j (omega arith)
+element-copy-out-six-below-10 : tie.Need-element-copy-out-six-below-10
+element-copy-out-six-below-10 c = search needs
+
+element-copy-out-six-below-11 : tie.Need-element-copy-out-six-below-11
+element-copy-out-six-below-11 c = search needs
+
+element-copy-out-six-below-12 : tie.Need-element-copy-out-six-below-12
+element-copy-out-six-below-12 c = search needs
+
+six-below-requires-2 : tie.Need-six-below-requires-2
+six-below-requires-2 c κs = search needs
+
+returns-2 : tie.Need-returns-2
+returns-2 c = λ e. not-so e
+
+element-copy-out-six-below-13 : tie.Need-element-copy-out-six-below-13
+element-copy-out-six-below-13 c = search needs
+
+element-copy-out-six-below-14 : tie.Need-element-copy-out-six-below-14
+element-copy-out-six-below-14 c = search needs
+
+element-copy-out-six-below-15 : tie.Need-element-copy-out-six-below-15
+element-copy-out-six-below-15 c = search needs
+
+element-copy-out-six-below-16 : tie.Need-element-copy-out-six-below-16
+element-copy-out-six-below-16 c = search needs
+
+element-copy-out-six-below-17 : tie.Need-element-copy-out-six-below-17
+element-copy-out-six-below-17 c = search needs
+
+element-copy-out-six-below-18 : tie.Need-element-copy-out-six-below-18
+element-copy-out-six-below-18 c = search needs
+
+six-below-requires-3 : tie.Need-six-below-requires-3
+six-below-requires-3 c κs = search needs
+
+returns-3 : tie.Need-returns-3
+returns-3 c = λ e.
+    record {
+      classes = c .before .before .before .before .before .before .before .before .before .before .before .before .before .before .before .before .six-below .ensures (not-false _ (c .before .before .before .before .before .before .before .before .before .before .before .before .before .before .before .if1 .left));
+      marks = c .before .before .before .before .before .before .before .before .six-below2 .ensures (not-false _ (c .before .before .before .before .before .before .before .if2 .left));
+      parts = c .six-below3 .ensures e;
+    }
 
 pub below-spec : {M : Type 1} → statement M
 below-spec =
     tie.close
     (tie.spec
-    Inv-loop
-    μ-loop
-    loop-holds
-    array-read-if1
-    mul-greatest8
-    element-copy-out-greatest8
-    greatest8-requires
+    element-copy-out-six-below
+    element-copy-out-six-below-2
+    element-copy-out-six-below-3
+    element-copy-out-six-below-4
+    element-copy-out-six-below-5
+    element-copy-out-six-below-6
+    six-below-requires
     returns
-    add-k
-    loop-less
-    loop-again
-    returns-2)
+    element-copy-out-six-below-7
+    element-copy-out-six-below-8
+    element-copy-out-six-below-9
+    element-copy-out-six-below-10
+    element-copy-out-six-below-11
+    element-copy-out-six-below-12
+    six-below-requires-2
+    returns-2
+    element-copy-out-six-below-13
+    element-copy-out-six-below-14
+    element-copy-out-six-below-15
+    element-copy-out-six-below-16
+    element-copy-out-six-below-17
+    element-copy-out-six-below-18
+    six-below-requires-3
+    returns-3)
