@@ -9,24 +9,22 @@ use libc::STDIN_FILENO;
 // More than a line of the files has.
 type Cells = [u8; 64];
 
-// How many cells of the two differ.
-fn differing(a: &Cells, b: &Cells) -> usize {
-    let mut count: usize = 0;
+fn differ(a: &Cells, b: &Cells) -> bool {
     let mut i: usize = 0;
     while i < 64 {
         if a[i] != b[i] {
-            count += 1;
+            return true;
         }
         i += 1;
     }
-    count
+    false
 }
 
 fn clusters(classes: &[u8], marks: &[u8], bits: &mut Cells) {
     let mut forward = [0u8; 64];
     uax29::graphemes::graphemes_back(classes, marks, bits);
     uax29::graphemes::graphemes_forward(classes, marks, &mut forward);
-    if 0 < differing(bits, &forward) {
+    if differ(bits, &forward) {
         write(b"!");
     }
 }
