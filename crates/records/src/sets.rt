@@ -9,6 +9,7 @@ use crate::cells::cell16;
 use crate::cells::length32;
 use crate::cells::wide;
 use crate::judge::is_khmer;
+use crate::judge::is_sign;
 use crate::judge::judge_lengths;
 use crate::judge::judge_marked;
 use crate::judge::judge_part;
@@ -128,6 +129,7 @@ pub fn judge_records<'s, 'a>(
     Verdict::Accepted
 }
 
+// Most records are no sign, which is looked at first.
 pub fn judge_sign_at<'s, 'a>(
     wides: &'s [&'a [u32]; 2],
     bytes: &'s [&'a [u8]; 15],
@@ -136,13 +138,17 @@ pub fn judge_sign_at<'s, 'a>(
 ) -> Verdict
     ensures { λ r. ⌜ r ≡ judgeSignAt (lent (wides .entry) (bytes .entry) (firsts .entry)) i ⌝ }
 {
-    let first = cell16(firsts, i) as usize;
-    judge_sign(
-        byte(bytes, 10, i),
-        wide(wides, 0, i),
-        byte(bytes, 11, i),
-        wide(wides, 1, first),
-    )
+    let x = wide(wides, 0, i);
+    if is_sign(x) {
+        let first = cell16(firsts, i) as usize;
+        return judge_sign(
+            byte(bytes, 10, i),
+            x,
+            byte(bytes, 11, i),
+            wide(wides, 1, first),
+        );
+    }
+    Verdict::Accepted
 }
 
 fn judge_all_signs<'s, 'a>(
