@@ -1,13 +1,13 @@
 -- A loop that keeps the greatest value decides whether any value is at or above a limit. Assumes nothing.
-use Prim.Native.Nat.{ℕ, _+_, _<_, _≤_}
-use mathlib.Core.Path.{_≡_, sym, _∙_, ap}
-use mathlib.Core.Bool.{_||_, or-assoc, or-false}
-use mathlib.Core.List.{List}
+use Prim.Native.Nat.{ℕ, _+_, _-_, _/_, _%_, _<_, _≤_}
+use mathlib.Core.Path.{_≡_, refl, sym, _∙_, ap}
+use mathlib.Core.Bool.{Bool, _||_, or-assoc, or-false}
+use mathlib.Core.List.{List, [], _∷_, _++_}
 use native.Mathlib.Numerals.{add-one}
 use native.Mathlib.Omega.{arith}
 use lib.Dec.{leb, ltb}
-use lib.ListN.{length, getD, drop, drop-of-length-le}
-use lib.Seq.{drop-cons}
+use lib.ListN.{length, getD, take, drop, drop-of-length-le, take-append-drop, length-drop}
+use lib.Seq.{drop-cons, take-all, length-take-le}
 use borrow.Author.Tests.{leb-true, le-leb, lt-leb, ltb-true, ltb-false}
 use Rattle.basics.specs.Sets.{any}
 use Rattle.basics.proofs.Tests.{by-test}
@@ -37,3 +37,32 @@ module _ (f : ℕ → ℕ) (limit : ℕ) (xs : List ℕ) where
 
   pub swept-all : (i most : ℕ) → length xs ≤ i → Swept i most → leb limit most ≡ any (λ v. leb limit (f v)) xs
   swept-all i most h s = sym (or-false (leb limit most)) ∙ (rw (drop-of-length-le xs h) at s)
+
+-- two columns of one length, each with its greatest value
+pub swept-both : (f : ℕ → ℕ) (limit : ℕ) (xs ys : List ℕ) (i one two most : ℕ) (r : Bool) → length ys ≡ length xs → length xs ≤ i → Swept f limit xs i one → Swept f limit ys i two → most ≡ larger one two → r ≡ leb limit most → r ≡ (any (λ v. leb limit (f v)) xs || any (λ v. leb limit (f v)) ys)
+swept-both f limit xs ys i one two most r e h s t m g =
+    let k : length ys ≤ i = omega (arith, e, h) in
+    g ∙ rw (m, reached limit one two, swept-all f limit xs i one h s, swept-all f limit ys i two k t)
+
+-- any of a column, by its halves
+any-join : (p : ℕ → Bool) (xs ys : List ℕ) → any p (xs ++ ys) ≡ (any p xs || any p ys)
+any-join p [] ys = refl
+any-join p (x ∷ xs) ys = ap (λ b. p x || b) (any-join p xs ys) ∙ sym (or-assoc (p x) (any p xs) (any p ys))
+
+-- the two halves of a column with an even number of cells, as they are cut out
+module _ (xs : List ℕ) (even : length xs % 2 ≡ 0) where
+  abbrev half : ℕ
+  half = length xs / 2
+
+  rest : take (length xs - half) (drop half xs) ≡ drop half xs
+  rest = take-all (length xs - half) (drop half xs) (let z : length (drop half xs) ≡ length xs - half = length-drop half xs in omega (arith, z))
+
+  pub halves-even : length (take (length xs - half) (drop half xs)) ≡ length (take half xs)
+  halves-even =
+      let a : length (take half xs) ≡ half = length-take-le half xs (omega arith) in
+      let b : length (drop half xs) ≡ length xs - half = length-drop half xs in
+      ap length rest ∙ omega (arith, a, b, even)
+
+  pub any-halves : (p : ℕ → Bool) (r : Bool) → r ≡ (any p (take half xs) || any p (take (length xs - half) (drop half xs))) → r ≡ any p xs
+  any-halves p r e =
+      e ∙ ap (λ ys. any p (take half xs) || any p ys) rest ∙ sym (any-join p (take half xs) (drop half xs)) ∙ ap (any p) (take-append-drop half xs)

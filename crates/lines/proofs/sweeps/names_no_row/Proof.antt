@@ -1,53 +1,38 @@
-use Prim.Native.Nat.{_-_}
-use mathlib.Core.Path.{_∙_}
+use Prim.Native.Nat.{_/_}
+use mathlib.Core.Path.{sym}
+use native.Mathlib.Omega.{arith}
 use lib.ListN.{length}
-use Rattle.lines.specs.Rules.{rowIn}
-use Rattle.lines.proofs.Greatest.{Swept, swept-none, swept-more, swept-all}
+use lib.Seq.{length-take-le}
+use Rattle.lines.proofs.Greatest.{halves-even, any-halves}
 use borrow.Author.Needs.{needs}
 use Rattle.lines.proofs.sweeps.names_no_row.Statement.{statement}
 use Rattle.lines.proofs.sweeps.names_no_row.Tie as tie
 
-abbrev Inv-loop : tie.InvT-loop
-Inv-loop table rows most₀ i₀ most i = Swept rowIn rows table i most
+slice-aggregate-either-names : tie.Need-slice-aggregate-either-names
+slice-aggregate-either-names c = sym (length-take-le (length (c .before .before .args .table .now) / 2) (c .before .before .args .table .now) (omega arith))
 
-abbrev μ-loop : tie.MeasureT-loop
-μ-loop table rows most₀ i₀ most i = length table - i
+sub-either-names : tie.Need-sub-either-names
+sub-either-names c = search needs
 
-loop-holds : tie.Need-loop-holds Inv-loop μ-loop
-loop-holds c = search swept-none
+part-either-names-start : tie.Need-part-either-names-start
+part-either-names-start c = search needs
 
-shared-slice-read-larger : tie.Need-shared-slice-read-larger Inv-loop μ-loop
-shared-slice-read-larger c = search needs
+part-either-names-end : tie.Need-part-either-names-end
+part-either-names-end c = search needs
 
-larger-requires : tie.Need-larger-requires Inv-loop μ-loop
-larger-requires c κs = search needs
+either-names-requires : tie.Need-either-names-requires
+either-names-requires c κs = (c .before .before .before .pre .0, halves-even (c .before .before .before .args .table .now) (c .before .before .before .pre .1))
 
-add-i : tie.Need-add-i Inv-loop μ-loop
-add-i c = search needs
-
-loop-less : tie.Need-loop-less Inv-loop μ-loop
-loop-less c = search needs
-
-loop-again : tie.Need-loop-again Inv-loop μ-loop
-loop-again c = search swept-more
-
-reaches-requires : tie.Need-reaches-requires Inv-loop μ-loop
-reaches-requires c κs = search needs
-
-returns : tie.Need-returns Inv-loop μ-loop
-returns c = c .reaches .ensures ∙ swept-all rowIn _ (c .before .before .before .before .args .table .now) _ _ (c .before .loop-test .left) (c .before .before .loop .inv)
+returns : tie.Need-returns
+returns c = any-halves (c .before .before .before .before .args .table .now) (c .before .before .before .before .pre .1) _ _ (c .either-names .ensures)
 
 pub names-no-row-spec : {M : Type 1} → statement M
 names-no-row-spec =
     tie.close
     (tie.spec
-    Inv-loop
-    μ-loop
-    loop-holds
-    shared-slice-read-larger
-    larger-requires
-    add-i
-    loop-less
-    loop-again
-    reaches-requires
+    slice-aggregate-either-names
+    sub-either-names
+    part-either-names-start
+    part-either-names-end
+    either-names-requires
     returns)
