@@ -1,4 +1,4 @@
-// The loop over a table on an array of tokens: the complex parser, where records are split.
+// The loop over a table on an array of tokens: the complex parser, where a record or a part is odd that gives no token.
 use crate::direct::use_index;
 use crate::going::Going;
 use crate::going::Stand;
