@@ -1,6 +1,8 @@
 // The lines of the published break test files, answered by the rules of UAX #29: `G` for clusters and `W` for words, then the class and
 // the mark of each character (`W;8,0 11,0 8,0`). The answer has 1 for each character that a boundary stands before, else 0; to any
 // other line it is `?`. Clusters are asked of both engines, and where they differ that is told with `!`.
+#![tactic(auto)]
+
 use cases::{Kind, Number};
 use console::write;
 use libc::STDIN_FILENO;

@@ -10,7 +10,7 @@ use crate::spans::{count, letter, next_of, span, span_at};
 use records::MOST;
 
 // What an item is.
-#[derive(Drop)]
+#[derive(Clone, Copy)]
 pub enum Kind {
     Record,
     Part,

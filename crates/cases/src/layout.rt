@@ -14,7 +14,7 @@ use records::Parser;
 use records::cells::cell8;
 use words::{Next, WordState};
 
-#[derive(Drop)]
+#[derive(Clone, Copy)]
 pub enum Line {
     Skipped,
     NotOfLayout,
@@ -58,14 +58,14 @@ pub enum Line {
 }
 
 // Who answers for classes and marks: the word machine, or an engine of UAX #29's clusters, which looks back or goes forward.
-#[derive(Drop)]
+#[derive(Clone, Copy)]
 pub enum Machine {
     Words,
     Back,
     Forward,
 }
 
-#[derive(Drop)]
+#[derive(Clone, Copy)]
 pub enum Task {
     LineStep {
         state: LineState,
@@ -87,7 +87,7 @@ pub enum Task {
 }
 
 // Whom a kind and a script name.
-#[derive(Drop)]
+#[derive(Clone, Copy)]
 pub enum Asked {
     Of { parser: Parser, full: bool },
     Nobody,

@@ -1,4 +1,6 @@
 // Reading of case lines. A line that is not of the layout says so.
+#![tactic(auto)]
+
 mod blocks;
 mod columns;
 mod files;

@@ -5,13 +5,13 @@ ghost use Rattle.cases.specs.Numbers.{radix_of, digit_of, number_of};
 // The most that a first part and a count of cells can be, two bytes.
 pub(crate) const MOST16: u32 = 65535;
 
-#[derive(Drop)]
+#[derive(Clone, Copy)]
 pub enum Base {
     Decimal,
     Hexadecimal,
 }
 
-#[derive(Drop)]
+#[derive(Clone, Copy)]
 pub enum Number {
     Value(u32),
     Nothing,

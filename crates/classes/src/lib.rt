@@ -1,5 +1,7 @@
 // The named values of SCOPE: the five lists of classes, the classes that a pushed character gets, the scalars that the parsers name,
 // and the two modes.
+#![tactic(auto)]
+
 pub mod category;
 pub mod cluster_break;
 pub mod myanmar_class;
@@ -12,7 +14,7 @@ ghost use Rattle.classes.specs.Mode.{mode_code};
 ghost use Rattle.classes.specs.Shape.{shape_code};
 
 // Crate mode answers as the Rust does; whole mode is ours and repeats no character (SCOPE 1.3).
-#[derive(Drop)]
+#[derive(Clone, Copy)]
 pub enum Mode {
     Crate,
     Whole,
@@ -31,7 +33,7 @@ impl Mode {
 }
 
 // The class of a pushed character: the `ShapeClass` of the three Rust parsers.
-#[derive(Drop)]
+#[derive(Clone, Copy)]
 pub enum Shape {
     Base,
     Mark,

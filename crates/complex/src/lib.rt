@@ -1,5 +1,7 @@
 // The complex parser, src/text/cluster/complex.rs: its functions by their names, the longer ones in pieces. A call of `parse` makes
 // one cluster; it is begun with `joins`, since U+034F is stepped over. `khmer` says whether the script is Khmer.
+#![tactic(auto)]
+
 ghost use Rattle.std.specs.Prelude.{true, false, ◌≡◌};
 ghost use Rattle.classes.specs.UseClass.{HN};
 ghost use Rattle.parse.specs.Rule.{run, holds, while, is};

@@ -1,4 +1,6 @@
 // What the programs share: text, numbers and the parts of a refusal on standard output.
+#![tactic(auto)]
+
 ghost use Rattle.std.specs.Prelude.{◌≡◌};
 ghost use Rattle.console.specs.Letters.{side_letter};
 

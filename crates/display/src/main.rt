@@ -1,4 +1,6 @@
 // The display loop: the clusters of one small text, as each parser finds them in each mode; one line for each.
+#![tactic(auto)]
+
 mod clusters;
 mod text;
 

@@ -1,5 +1,7 @@
 // Both edges of every refusal of the check: a small text, or a long one, in which one cell or one length is another; one line of
 // verdicts for each.
+#![tactic(auto)]
+
 mod lengths;
 mod texts;
 mod verdicts;

@@ -7,7 +7,7 @@ use console::write;
 use records::{Parser, Verdict, check_in};
 
 // A cell of the 18 columns, counted from 0 in the order of the check's parameters, and its value.
-#[derive(Drop)]
+#[derive(Clone, Copy)]
 struct Cell {
     column: u8,
     index: u8,
@@ -20,7 +20,7 @@ const NO_CELL: Cell = Cell {
     value: 0,
 };
 
-#[derive(Drop)]
+#[derive(Clone, Copy)]
 struct Cells {
     a: Cell,
     b: Cell,

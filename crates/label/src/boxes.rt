@@ -16,7 +16,7 @@ const ROW: usize = 7;
 const WIDTH: usize = 9;
 
 // Where a border is: before the first box of a row, between two, or after the last.
-#[derive(Drop)]
+#[derive(Clone, Copy)]
 enum Side {
     Left,
     Between,
@@ -24,7 +24,7 @@ enum Side {
 }
 
 // Which of the three lines of a box.
-#[derive(Drop)]
+#[derive(Clone, Copy)]
 enum Edge {
     Top,
     Middle,

@@ -10,13 +10,13 @@ pub type Scalars = [u32; 8192];
 pub type Bytes = [u8; 8192];
 
 // How many cells are written, and the index after that of the last record that was pushed.
-#[derive(Drop)]
+#[derive(Clone, Copy)]
 pub struct Seen {
     pub cells: usize,
     pub next: usize,
 }
 
-#[derive(Drop)]
+#[derive(Clone, Copy)]
 pub enum Outcome {
     Cells(usize),
     Refused { number: u8, index: usize },

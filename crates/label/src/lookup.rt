@@ -10,7 +10,7 @@ use crate::{table, zeros};
 use records::cells::{cell8, cell32};
 
 // A column of the table.
-#[derive(Drop)]
+#[derive(Clone, Copy)]
 pub enum Field {
     Break,
     Myanmar,

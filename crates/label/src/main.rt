@@ -1,5 +1,7 @@
 // A label's clusters as lines of boxes, crate mode over whole mode. The label is what the arguments say, or each line of standard
 // input where the argument is -, or the story's label where there is none.
+#![tactic(auto)]
+
 mod boxes;
 mod cells;
 mod labels;
@@ -19,7 +21,7 @@ use records::cells::cell8;
 type Stored = [u8; 65536];
 
 // How many bytes of a label are stored, and whether there are more.
-#[derive(Drop)]
+#[derive(Clone, Copy)]
 struct Kept {
     length: usize,
     long: bool,
@@ -67,7 +69,7 @@ fn take(chunk: &[u8], label: &mut Stored, start: Kept) -> Kept {
     kept
 }
 
-#[derive(Drop)]
+#[derive(Clone, Copy)]
 struct Turn {
     kept: Kept,
     open: bool,

@@ -8,7 +8,7 @@ use cases::{Base, Number, next_of, read_number, span_at};
 use records::cells::cell8;
 
 // How many scalars were read, or where none was: the byte or the number, counted from 0.
-#[derive(Drop)]
+#[derive(Clone, Copy)]
 pub enum Taken {
     Scalars(usize),
     NotUtf8(usize),

@@ -6,7 +6,7 @@ ghost use Rattle.label.specs.Utf8.{tail, decode_of};
 use records::cells::cell8;
 
 // The scalar that the bytes begin with and how many bytes it takes, or that they begin with none.
-#[derive(Drop)]
+#[derive(Clone, Copy)]
 pub enum Decoded {
     Scalar { value: u32, length: usize },
     Bad,

@@ -1,5 +1,7 @@
 // The line machine: `check_line` of src/text/analyze.rs over a lent table, as one step with its refusals, and the run of `next`,
 // which merges its answers with those of the word machine.
+#![tactic(auto)]
+
 mod judge;
 pub mod line_break;
 mod next;
@@ -21,7 +23,7 @@ use runs::{check, lay};
 use words::{Next, WordState};
 
 // How strongly words hold together, the Rust's `WordBreakStrength`.
-#[derive(Drop)]
+#[derive(Clone, Copy)]
 pub enum Strength {
     Normal,
     BreakAll,
@@ -29,7 +31,7 @@ pub enum Strength {
 }
 
 // What stands before a record, the Rust's `Boundary`.
-#[derive(Drop)]
+#[derive(Clone, Copy)]
 pub enum Boundary {
     None,
     Word,
@@ -38,21 +40,21 @@ pub enum Boundary {
 }
 
 // The class of the record before, or none at the start of the text.
-#[derive(Drop)]
+#[derive(Clone, Copy)]
 pub enum Previous {
     Class(u8),
     Nothing,
 }
 
 // What the machine keeps between two records. Every value is allowed, and the step refuses those that its table has not.
-#[derive(Drop)]
+#[derive(Clone, Copy)]
 pub struct LineState {
     pub row: u8,
     pub previous: Previous,
 }
 
 // What a step hands back: the new state, the answer, and the verdict.
-#[derive(Drop)]
+#[derive(Clone, Copy)]
 pub struct LineStep {
     pub state: LineState,
     pub answer: Boundary,
@@ -60,14 +62,14 @@ pub struct LineStep {
 }
 
 // Both machines, the Rust's `BoundaryState`.
-#[derive(Drop)]
+#[derive(Clone, Copy)]
 pub struct BoundaryState {
     pub line: LineState,
     pub word: WordState,
 }
 
 // What a step of `next` hands back.
-#[derive(Drop)]
+#[derive(Clone, Copy)]
 pub struct BoundaryStep {
     pub state: BoundaryState,
     pub answer: Boundary,

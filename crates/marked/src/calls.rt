@@ -6,7 +6,7 @@ use segment::{Answer, Segmenter, What};
 
 // What a case tells of a call: how many characters, three of their own and the fourth, which later records repeat; what is set;
 // the next place.
-#[derive(Drop)]
+#[derive(Clone, Copy)]
 pub(crate) struct Call {
     pub len: usize,
     pub a: Pushed,
@@ -18,7 +18,7 @@ pub(crate) struct Call {
 }
 
 // The calls so far: where they lead, and whether each answered what was told.
-#[derive(Drop)]
+#[derive(Clone, Copy)]
 pub(crate) struct Walk {
     pub state: Segmenter,
     pub good: bool,

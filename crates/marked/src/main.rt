@@ -1,5 +1,7 @@
 // The sixteen marked cases of SCOPE 9.1, by the public functions: a line for each, `P01 ok` to `P16 ok`, or `fails`. The same
 // table stands in specs/Cases.antt for the definitions.
+#![tactic(auto)]
+
 mod calls;
 mod clusters;
 mod runs;

@@ -5,7 +5,7 @@ use records::cells::{first8, first16, first32};
 use segment::{Answer, Segmenter};
 
 // What a case says of a record: its scalar, its class for the parser of the case, whether it is an emoji, its count of parts.
-#[derive(Drop)]
+#[derive(Clone, Copy)]
 pub(crate) struct Character {
     pub scalar: u32,
     pub class: u8,
@@ -24,7 +24,7 @@ pub(crate) fn of_class(scalar: u32, class: u8) -> Character {
 
 // Records of a case, at most 32: three of their own, and all later ones are the fourth. `part` is the one part of the text, lent
 // where a record has parts.
-#[derive(Drop)]
+#[derive(Clone, Copy)]
 pub(crate) struct Text {
     pub parser: Parser,
     pub len: usize,

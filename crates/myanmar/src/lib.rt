@@ -1,4 +1,6 @@
 // The Myanmar parser, function by function as src/text/cluster/myanmar.rs. A call of `parse` is begun with `joins` true.
+#![tactic(auto)]
+
 ghost use Rattle.std.specs.Prelude.{◌≡◌, ◌+◌};
 ghost use Rattle.basics.specs.Sets.{member};
 ghost use Rattle.classes.specs.MyanmarClass as class;

@@ -1,5 +1,7 @@
 // The cluster under construction: what a call of a parser changes as it goes, and what it hands back. The three grammars are
 // built of its methods, which carry the names that they have in the Rust.
+#![tactic(auto)]
+
 pub mod actions;
 pub mod asks;
 pub mod class_o;
@@ -15,7 +17,7 @@ use classes::{Mode, Shape};
 
 // The answer of each part of a parser, for the Rust's `Option<()>`: it goes on, or stopped of its own, or the cluster has 32, or
 // the text ended.
-#[derive(Drop)]
+#[derive(Clone, Copy)]
 pub enum Flow {
     GoOn,
     Stop,
@@ -23,7 +25,7 @@ pub enum Flow {
     End,
 }
 
-#[derive(Drop)]
+#[derive(Clone, Copy)]
 pub enum Emoji {
     None,
     Default,
@@ -45,7 +47,7 @@ impl Emoji {
     }
 }
 
-#[derive(Drop)]
+#[derive(Clone, Copy)]
 pub enum Space {
     None,
     Newline,
@@ -75,7 +77,7 @@ impl Space {
     }
 }
 
-#[derive(Drop)]
+#[derive(Clone, Copy)]
 pub struct Info {
     pub emoji: Emoji,
     pub space: Space,
@@ -84,7 +86,7 @@ pub struct Info {
 }
 
 // A character of the cluster: its scalar, the index of its record, how many tokens are noted directly after it, its shape class.
-#[derive(Drop)]
+#[derive(Clone, Copy)]
 pub struct Pushed {
     pub scalar: u32,
     pub index: u16,
@@ -92,7 +94,7 @@ pub struct Pushed {
     pub class: Shape,
 }
 
-#[derive(Drop)]
+#[derive(Clone, Copy)]
 pub struct Cluster {
     pub len: usize,
     pub chars: [Pushed; 32],
@@ -124,7 +126,7 @@ impl Cluster {
 }
 
 // A token's number in the stream, or the number of tokens, which is the end.
-#[derive(Drop)]
+#[derive(Clone, Copy)]
 pub struct Place {
     pub at: usize,
 }
@@ -144,7 +146,7 @@ impl Place {
 //
 // It has 424 bytes, and the compiler gives each variable that holds one a place of its own on the stack. So a function that asks between
 // its steps takes them in one variable, `s = s.accept(..);`, and the steps of a push are in one function that is kept whole.
-#[derive(Drop)]
+#[derive(Clone, Copy)]
 pub struct Parse {
     pub at: usize,
     pub done: bool,

@@ -1,4 +1,6 @@
 // The Unicode property files: their value names, their lines, and range columns with their lookup.
+#![tactic(auto)]
+
 mod lines;
 mod lookups;
 mod meets;
@@ -17,7 +19,7 @@ use records::Verdict;
 pub use rulings::ruling_of;
 
 // Which of the two property files.
-#[derive(Drop)]
+#[derive(Clone, Copy)]
 pub enum File {
     // GraphemeBreakProperty.txt
     Cluster,
@@ -26,14 +28,14 @@ pub enum File {
 }
 
 // What the value of a line stands for.
-#[derive(Drop)]
+#[derive(Clone, Copy)]
 pub enum Value {
     Found(u8),
     Unknown,
 }
 
 // What a line of a property file holds.
-#[derive(Drop)]
+#[derive(Clone, Copy)]
 pub enum Line {
     // blanks alone, or a comment
     Skipped,
@@ -44,7 +46,7 @@ pub enum Line {
 }
 
 // What a line says in a file.
-#[derive(Drop)]
+#[derive(Clone, Copy)]
 pub enum Ruling {
     Nothing,
     // 11 or 12
@@ -53,7 +55,7 @@ pub enum Ruling {
 }
 
 // What the reader answers: its verdict, and how many ranges are held then.
-#[derive(Drop)]
+#[derive(Clone, Copy)]
 pub struct Filled {
     pub verdict: Verdict,
     pub held: usize,

@@ -63,7 +63,7 @@ fn note(ruling: Ruling, firsts: &mut [u32], lasts: &mut [u32], codes: &mut [u8],
 }
 
 // What the lines came to: their verdict, and how many ranges are noted.
-#[derive(Drop)]
+#[derive(Clone, Copy)]
 pub(crate) struct Collected {
     pub verdict: Verdict,
     pub count: usize,

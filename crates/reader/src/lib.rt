@@ -1,4 +1,6 @@
 // A reader over the lent columns that keeps its place: a struct that borrows them, and thin functions over it.
+#![tactic(auto)]
+
 ghost use Rattle.std.specs.Prelude.{◌≡◌};
 ghost use Rattle.records.specs.Text.{text_of};
 ghost use Rattle.segment.specs.Calls.{next_of};
@@ -7,7 +9,7 @@ ghost use Rattle.reader.specs.Reading.{reader_of, answer_of, moved_to};
 use segment::{Answer, Segmenter};
 
 // The parser, its mode and its place, and the 18 columns in the order in which every function takes them.
-#[derive(Drop)]
+#[derive(Clone, Copy)]
 pub struct Reader<'a> {
     pub state: Segmenter,
     pub scalars: &'a [u32],

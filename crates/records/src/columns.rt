@@ -11,7 +11,7 @@ use crate::judge::bad_scalar;
 use classes::{category, cluster_break, myanmar_class, scalar, use_class, word_break};
 
 // Six codes, or what six codes stay below.
-#[derive(Drop)]
+#[derive(Clone, Copy)]
 pub struct Six {
     pub a: u8,
     pub b: u8,

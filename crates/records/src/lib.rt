@@ -1,5 +1,7 @@
 // The check of a lent text: refusals 1 to 7 (SCOPE 5.1), in their order, and the check of the runs over two columns, as the word
 // run is. Every call of the library begins with one of the two and hands a refusal out unchanged.
+#![tactic(auto)]
+
 pub mod cells;
 mod columns;
 mod judge;
@@ -19,7 +21,7 @@ use sets::{judge_all_marked, judge_each, judge_shape, judge_signs};
 pub use threes::{is_bad_three, judge_codes, judge_columns};
 
 // What a refusal's index counts.
-#[derive(Drop)]
+#[derive(Clone, Copy)]
 pub enum Side {
     Record,
     Part,
@@ -40,7 +42,7 @@ impl Side {
 }
 
 // Whom the text is checked for: complex with and without Khmer differ in refusal 7.
-#[derive(Drop)]
+#[derive(Clone, Copy)]
 pub enum Parser {
     Simple,
     Myanmar,
@@ -63,21 +65,21 @@ impl Parser {
 }
 
 // A refusal: its number in the table of SCOPE 5.1, and what it is about; where that is neither a record nor a part, the index is 0.
-#[derive(Drop)]
+#[derive(Clone, Copy)]
 pub struct Refusal {
     pub number: u8,
     pub side: Side,
     pub index: usize,
 }
 
-#[derive(Drop)]
+#[derive(Clone, Copy)]
 pub enum Verdict {
     Accepted,
     Refused(Refusal),
 }
 
 // The cells of one record.
-#[derive(Drop)]
+#[derive(Clone, Copy)]
 pub struct Row {
     pub scalar: u32,
     pub breaks: u8,
@@ -96,7 +98,7 @@ pub struct Row {
 }
 
 // The cells of one part.
-#[derive(Drop)]
+#[derive(Clone, Copy)]
 pub struct PartRow {
     pub scalar: u32,
     pub breaks: u8,

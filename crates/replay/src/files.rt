@@ -12,7 +12,7 @@ use records::Verdict;
 use records::cells::{cell8, cell32, first8, first32};
 
 // How much a line asks for: cells of the two sets, blocks to read, scalars to look up, cells to look them up into.
-#[derive(Drop)]
+#[derive(Clone, Copy)]
 pub struct Sizes {
     pub clusters: u16,
     pub words: u16,
@@ -22,7 +22,7 @@ pub struct Sizes {
 }
 
 // What is kept between two blocks: how many bytes of answers wait, and how many ranges each set holds.
-#[derive(Drop)]
+#[derive(Clone, Copy)]
 struct Filling {
     at: usize,
     clusters: usize,

@@ -1,4 +1,6 @@
 // Cases from standard input, one a line; one line of answers for each.
+#![tactic(auto)]
+
 mod answers;
 mod breaks;
 mod clusters;
@@ -16,7 +18,7 @@ type Stored = [u8; 1048576];
 
 // What is kept between two bytes: how many bytes of the line were stored, whether it has more than can be, its number, and how many
 // bytes of answers wait.
-#[derive(Drop)]
+#[derive(Clone, Copy)]
 struct Place {
     length: usize,
     long: bool,
@@ -66,7 +68,7 @@ fn take(chunk: &[u8], line: &mut Stored, to: &mut Buffer, start: Place) -> Place
     p
 }
 
-#[derive(Drop)]
+#[derive(Clone, Copy)]
 struct Turn {
     place: Place,
     open: bool,

@@ -15,7 +15,7 @@ use records::{Parser, Verdict};
 use segment::{RunAnswer, Segmenter, What, run_in};
 
 // What a line asks for: a full run into so many cells, or stepping calls from a place on.
-#[derive(Drop)]
+#[derive(Clone, Copy)]
 pub struct Ask {
     pub parser: Parser,
     pub mode: Mode,

@@ -6,7 +6,7 @@ ghost use Rattle.segment.specs.Going.{goes_on, given_up, last_cell, stop_of, bac
 use classes::Mode;
 
 // Where a run stands between two clusters.
-#[derive(Drop)]
+#[derive(Clone, Copy)]
 pub(crate) struct Stand {
     pub at: usize,
     pub clusters: usize,
@@ -15,7 +15,7 @@ pub(crate) struct Stand {
 
 // The place, the row of the table, how many clusters are begun, how many characters are written, and the number at which the cluster
 // under way is full.
-#[derive(Drop)]
+#[derive(Clone, Copy)]
 pub(crate) struct Going {
     pub at: usize,
     pub row: usize,

@@ -1,4 +1,6 @@
 // The public face: a stepping call and a full run for each parser, with every refusal.
+#![tactic(auto)]
+
 mod calls;
 mod direct;
 mod going;
@@ -24,7 +26,7 @@ use runs::run_accepted;
 pub use streams::{count_of, tokens_of};
 
 // A parser over a text: which one, in which mode, and where it stands.
-#[derive(Drop)]
+#[derive(Clone, Copy)]
 pub struct Segmenter {
     pub parser: Parser,
     pub mode: Mode,
@@ -32,7 +34,7 @@ pub struct Segmenter {
 }
 
 // What a call met: a cluster, the end of the text, or a refusal.
-#[derive(Drop)]
+#[derive(Clone, Copy)]
 pub enum What {
     Found,
     Over,
@@ -64,7 +66,7 @@ impl What {
 }
 
 // The next state, how many tokens the call passed, what it met, and the cluster.
-#[derive(Drop)]
+#[derive(Clone, Copy)]
 pub struct Answer {
     pub state: Segmenter,
     pub passed: usize,
@@ -73,7 +75,7 @@ pub struct Answer {
 }
 
 // What a full run met, and how many clusters and characters it wrote: 0 and 0 with a refusal.
-#[derive(Drop)]
+#[derive(Clone, Copy)]
 pub struct RunAnswer {
     pub verdict: Verdict,
     pub clusters: usize,

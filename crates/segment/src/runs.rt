@@ -24,7 +24,7 @@ use stream::MOST_TOKENS;
 
 // What a run works on: its parser and mode, whether the records are the tokens and regular, whether they are split into regular ones, and
 // how many tokens there are.
-#[derive(Drop)]
+#[derive(Clone, Copy)]
 pub(crate) struct Task {
     pub parser: Parser,
     pub mode: Mode,
@@ -34,7 +34,7 @@ pub(crate) struct Task {
 }
 
 // What is left of it, from a stand on.
-#[derive(Drop)]
+#[derive(Clone, Copy)]
 pub(crate) struct Rest {
     pub task: Task,
     pub from: Stand,

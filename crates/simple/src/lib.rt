@@ -1,5 +1,7 @@
 // The simple parser, src/text/cluster/simple.rs: grapheme clusters by the cluster break. A text is tokens whose kind is their cluster
 // break, and a call is begun with `joins` false, since U+034F is nothing special here. Functions and arms in the order of the Rust.
+#![tactic(auto)]
+
 ghost use Rattle.std.specs.Prelude.{◌≡◌};
 ghost use Rattle.parse.specs.Rule.{run, holds, while};
 ghost use Rattle.simple.specs.Grammar.{cluster, start, control, syllable, leading, vowel, trailing, other, is_extension, extension, extend, combining};

@@ -1,5 +1,7 @@
 // Which characters belong to which bytes: the answers of segment's calls with the spans of their records in the text's UTF-8. It is a layer
 // over these answers, which stay as they are.
+#![tactic(auto)]
+
 mod arrays;
 mod clusters;
 mod offsets;
@@ -17,7 +19,7 @@ use runs::run_roomy;
 use segment::{Answer, RunAnswer, Segmenter};
 
 // The bytes of a pushed character: the offset and the length of its record, and of the notes directly after it, both 0 without notes.
-#[derive(Drop)]
+#[derive(Clone, Copy)]
 pub struct Span {
     pub offset: u32,
     pub length: u32,
@@ -26,7 +28,7 @@ pub struct Span {
 }
 
 // The bytes of a cluster: those of its characters, where it starts and where it ends.
-#[derive(Drop)]
+#[derive(Clone, Copy)]
 pub struct Spans {
     pub chars: [Span; 32],
     pub start: u32,
@@ -47,7 +49,7 @@ impl Spans {
 }
 
 // What a stepping call answers, and the spans of its cluster.
-#[derive(Drop)]
+#[derive(Clone, Copy)]
 pub struct SpanAnswer {
     pub answer: Answer,
     pub spans: Spans,

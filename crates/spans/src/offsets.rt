@@ -29,7 +29,7 @@ pub(crate) fn length_of(scalars: &[u32], index: u16) -> u32
 }
 
 // How many bytes stand before a record: whoever goes on from there counts no record anew.
-#[derive(Drop)]
+#[derive(Clone, Copy)]
 pub(crate) struct Counted {
     pub index: u16,
     pub bytes: u32,

@@ -1,4 +1,6 @@
 // The token stream: `Tokens` of src/text/cluster/complex.rs, over the lent columns. For simple and Myanmar a token is a record.
+#![tactic(auto)]
+
 mod pieces;
 pub mod spots;
 

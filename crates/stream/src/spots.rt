@@ -8,14 +8,14 @@ use classes::Mode;
 use records::cells::record_count;
 
 // Token `part` of those that a record gives.
-#[derive(Drop)]
+#[derive(Clone, Copy)]
 pub struct Spot {
     pub index: usize,
     pub part: usize,
 }
 
 // A token, and the spot behind it.
-#[derive(Drop)]
+#[derive(Clone, Copy)]
 pub struct Taken {
     pub token: u64,
     pub next: Spot,

@@ -1,4 +1,6 @@
 // The tables of the grammars (written by tools/tables), the symbols that they tell tokens apart by, and what makes a token regular.
+#![tactic(auto)]
+
 pub mod complex_table;
 pub mod khmer_table;
 pub mod myanmar_table;

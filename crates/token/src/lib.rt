@@ -1,5 +1,7 @@
 // A token of the stream in one number, so that the parsers read one column: what they ask of a character, and the record that it
 // came from. Each field is taken out by a quotient and a remainder.
+#![tactic(auto)]
+
 ghost use Rattle.std.specs.Prelude.{◌≡◌};
 ghost use Rattle.token.specs.Token.{scalar_of, kind_of, break_of, category_of, emoji_of, selector_of, index_of, packed};
 

@@ -99,7 +99,7 @@ pub(crate) fn is_conjoined(breaks: &[u8], conjuncts: &[u8], at: usize) -> bool
 
 // What GB9c needs to know of the records before a place: whether a consonant and then extenders and linkers stand there, and whether a
 // linker is among them.
-#[derive(Drop)]
+#[derive(Clone, Copy)]
 pub struct Link {
     pub begun: bool,
     pub linked: bool,

@@ -128,14 +128,14 @@ pub fn edition_forward(
 
 // What the engine that goes forward keeps between two records: the state of 15.0, and what GB9c needs beside it. Every value is allowed, and
 // the step refuses those that no text leads to.
-#[derive(Drop)]
+#[derive(Clone, Copy)]
 pub struct EditionState {
     pub graphemes: GraphemeState,
     pub link: Link,
 }
 
 // What a step hands back: the new state, the answer (1 where a cluster starts at the record) and the verdict.
-#[derive(Drop)]
+#[derive(Clone, Copy)]
 pub struct EditionStep {
     pub state: EditionState,
     pub answer: u8,

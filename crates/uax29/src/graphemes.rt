@@ -14,7 +14,7 @@ use records::{Verdict, check_marked, judge_room};
 // What the engine that goes forward keeps between two records: the class before (14 where none came yet), whether an odd number of RI
 // stands directly before, whether a marked record and any number of EX do, and whether these and a ZWJ do. Every value is allowed, and
 // the step refuses those that no text leads to.
-#[derive(Drop)]
+#[derive(Clone, Copy)]
 pub struct GraphemeState {
     pub previous: u8,
     pub odd: bool,
@@ -23,7 +23,7 @@ pub struct GraphemeState {
 }
 
 // What a step hands back: the new state, the answer (1 where a cluster starts at the record) and the verdict.
-#[derive(Drop)]
+#[derive(Clone, Copy)]
 pub struct GraphemeStep {
     pub state: GraphemeState,
     pub answer: u8,

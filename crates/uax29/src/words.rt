@@ -12,7 +12,7 @@ use records::cells::cell8;
 
 // What the rules see of the characters before a place: whether there are none, the class of the last, and, of those that WB4 leaves,
 // the classes of the last two and whether they end with an odd number of RI.
-#[derive(Drop)]
+#[derive(Clone, Copy)]
 pub struct Seen {
     pub none: bool,
     pub last: u8,
@@ -22,7 +22,7 @@ pub struct Seen {
 }
 
 // The sets of classes that the rules name.
-#[derive(Drop)]
+#[derive(Clone, Copy)]
 pub enum Set {
     Only(u8),
     Newlines,

@@ -1,4 +1,6 @@
 // The word machine: `check_word` of src/text/analyze.rs as one step with its refusals, and as a run over lent columns.
+#![tactic(auto)]
+
 mod exits;
 mod judge;
 mod rows;
@@ -16,7 +18,7 @@ use rows::write_answers;
 
 // What the machine keeps between two records: whether none came yet, the class before, whether the next record has no boundary before
 // it, and the count of RI, 0 to 2. Every value is allowed, and the step refuses those that no run has.
-#[derive(Drop)]
+#[derive(Clone, Copy)]
 pub struct WordState {
     pub first: bool,
     pub previous: u8,
@@ -25,14 +27,14 @@ pub struct WordState {
 }
 
 // The class of the next record, or none at the end of the text.
-#[derive(Drop)]
+#[derive(Clone, Copy)]
 pub enum Next {
     Class(u8),
     End,
 }
 
 // What a step hands back: the new state, the answer (1 where a word boundary stands before the record) and the verdict.
-#[derive(Drop)]
+#[derive(Clone, Copy)]
 pub struct WordStep {
     pub state: WordState,
     pub answer: u8,
@@ -40,7 +42,7 @@ pub struct WordStep {
 }
 
 // How `check_word` is left.
-#[derive(Drop)]
+#[derive(Clone, Copy)]
 pub enum Exit {
     // The text's first record.
     Begun,

@@ -1,0 +1,13 @@
+use Rattle.parse.specs.Rule.{run, many_as}
+use Rattle.parse.proofs.Rules.{loop_turns, loop_leaves, falls}
+use Rattle.parse.specs.State.{turns}
+use mathlib.Core.Path.{◌≡◌, refl}
+use borrow.Author.Rules.{rules}
+use Rattle.parse.proofs.Parse.accept_zero_or_many_as.Given as goal
+
+-- `parse::Parse::accept_zero_or_many_as` meets its contract. Assumes nothing.
+abbrev pub invariant-loop-class : goal.invariant-loop-class
+invariant-loop-class l = run (many_as l.kind l.class) l.text l.s ≡ run (many_as l.kind l.class) l.text l.initial.s
+
+abbrev pub decreases-loop-class : goal.decreases-loop-class
+decreases-loop-class l = turns l.text l.s

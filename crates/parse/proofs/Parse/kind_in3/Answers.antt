@@ -1,0 +1,9 @@
+use Rattle.parse.proofs.Rules.{tests}
+use borrow.Author.Rules.{rules}
+use Rattle.parse.proofs.Parse.kind_in3.Goals as goal
+
+pub returns-then-kind_is : goal.returns-then-kind_is
+returns-then-kind_is c = search tests
+
+pub returns : goal.returns
+returns c = search tests

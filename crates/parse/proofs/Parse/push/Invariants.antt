@@ -1,0 +1,12 @@
+use Prim.Native.Nat.{◌-◌}
+use mathlib.Core.Path.{refl, sym}
+use Rattle.parse.proofs.Joiners.{Left, left_turn, left_falls, left_over}
+use borrow.Author.Rules.{rules}
+use Rattle.parse.proofs.Parse.push.Given as goal
+
+-- `parse::Parse::push` meets its contract. Assumes nothing.
+abbrev pub invariant-loop-self : goal.invariant-loop-self
+invariant-loop-self l = Left l.last l.text l.initial.self l.initial.class l.self l.class
+
+abbrev pub decreases-loop-self : goal.decreases-loop-self
+decreases-loop-self l = l.initial.class - l.self.at

@@ -1,0 +1,17 @@
+use Rattle.records.proofs.Passing.{joined_more, clean_all}
+use native.Mathlib.Omega.{arith}
+use borrow.Author.Tests.{eqb-true}
+use borrow.Author.Rules.{rules}
+use Rattle.records.proofs.columns.clean_scalars.Goals as goal
+
+pub loop-i-init : goal.loop-i-init
+loop-i-init c = λ e k h. absurd (omega arith)
+
+pub loop-i-smaller : goal.loop-i-smaller
+loop-i-smaller c = search rules
+
+pub loop-i-preserved : goal.loop-i-preserved
+loop-i-preserved c = joined_more _ _ _ _ _ c.loop-i.invariant c.oddness.ensures c.joined-odd.ensures
+
+pub returns : goal.returns
+returns c = λ e. clean_all c.args.column.now _ _ c.loop-i.invariant c.loop-i-test.false (eqb-true _ _ e)

@@ -1,0 +1,15 @@
+use Rattle.records.specs.Refusals.{judge_part}
+use Rattle.records.proofs.Chain.{told_verdicts}
+use Rattle.records.proofs.judge.judge_part.Goals as goal
+
+pub returns-then-bad_scalar : goal.returns-then-bad_scalar
+returns-then-bad_scalar c = unfold judge_part in search told_verdicts depth 10
+
+pub returns-then-bad_part_codes : goal.returns-then-bad_part_codes
+returns-then-bad_part_codes c = unfold judge_part in search told_verdicts depth 10
+
+pub returns-then-is_barred : goal.returns-then-is_barred
+returns-then-is_barred c = unfold judge_part in search told_verdicts depth 10
+
+pub returns : goal.returns
+returns c = unfold judge_part in search told_verdicts depth 10

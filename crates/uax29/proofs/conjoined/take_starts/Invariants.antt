@@ -1,0 +1,16 @@
+use Prim.Native.Nat.{◌≤◌, ◌-◌}
+use mathlib.Core.Path.{◌≡◌, refl}
+use native.Mathlib.Omega.{arith}
+use lib.ListN.{length}
+use Rattle.basics.specs.Columns.{cells}
+use Rattle.basics.proofs.Columns.{Written}
+use Rattle.uax29.specs.Conjoined.{taken_at}
+use Rattle.uax29.proofs.Links.{link_at, link_none, link_more, turn_taken}
+use borrow.Author.Rules.{rules}
+use Rattle.uax29.proofs.conjoined.take_starts.Given as goal
+
+abbrev pub invariant-loop-i : goal.invariant-loop-i
+invariant-loop-i l = (l.i ≤ length l.breaks) × ((length l.out ≡ length l.initial.out) × ((l.link ≡ link_at l.conjuncts l.i) × Written (taken_at l.breaks l.conjuncts l.initial.out) l.initial.out l.i l.out))
+
+abbrev pub decreases-loop-i : goal.decreases-loop-i
+decreases-loop-i l = length l.breaks - l.i

@@ -1,0 +1,16 @@
+use Prim.Native.Nat.{◌≤◌, ◌-◌}
+use mathlib.Core.Path.{◌≡◌, refl}
+use native.Mathlib.Omega.{arith}
+use lib.ListN.{length}
+use Rattle.basics.specs.Columns.{cells}
+use Rattle.basics.proofs.Columns.{Written}
+use Rattle.uax29.specs.EditionRuns.{start_in}
+use Rattle.uax29.proofs.EditionLaws.{turn_in}
+use borrow.Author.Rules.{rules}
+use Rattle.uax29.proofs.editions.decide_starts_in.Given as goal
+
+abbrev pub invariant-loop-i : goal.invariant-loop-i
+invariant-loop-i l = (l.i ≤ length l.breaks) × ((length l.out ≡ length l.initial.out) × Written (start_in l.edition l.breaks l.marks l.conjuncts) l.initial.out l.i l.out)
+
+abbrev pub decreases-loop-i : goal.decreases-loop-i
+decreases-loop-i l = length l.breaks - l.i

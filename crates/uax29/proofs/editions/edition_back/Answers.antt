@@ -1,0 +1,12 @@
+use Rattle.uax29.proofs.EditionLaws.{run_refused, run_whole, run_long}
+use borrow.Author.Rules.{rules}
+use Rattle.uax29.proofs.editions.edition_back.Goals as goal
+
+pub returns-in_default : goal.returns-in_default
+returns-in_default c = run_refused _ _ _ _ _ _ c.judge-verdict.ensures _ c.in_default.is
+
+pub decide_starts_in-requires : goal.decide_starts_in-requires
+decide_starts_in-requires c = search run_long
+
+pub returns : goal.returns
+returns c = run_whole _ _ _ _ _ _ c.judge-verdict.ensures _ c.in-Accepted.is c.decide_starts_in.ensures

@@ -1,0 +1,16 @@
+use Prim.Native.Nat.{◌≤◌, ◌-◌}
+use mathlib.Core.Path.{◌≡◌, refl}
+use lib.ListN.{length}
+use native.Mathlib.Omega.{arith}
+use Rattle.basics.specs.Columns.{cells}
+use Rattle.basics.proofs.Columns.{Written}
+use Rattle.uax29.specs.Graphemes.{start_at}
+use Rattle.uax29.proofs.GraphemeSummary.{turn_decided}
+use borrow.Author.Rules.{rules}
+use Rattle.uax29.proofs.graphemes.decide_starts.Given as goal
+
+abbrev pub invariant-loop-i : goal.invariant-loop-i
+invariant-loop-i l = (l.i ≤ length l.breaks) × ((length l.out ≡ length l.initial.out) × Written (start_at l.breaks l.marks) l.initial.out l.i l.out)
+
+abbrev pub decreases-loop-i : goal.decreases-loop-i
+decreases-loop-i l = length l.breaks - l.i

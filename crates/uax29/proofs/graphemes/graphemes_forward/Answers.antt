@@ -1,0 +1,12 @@
+use Rattle.uax29.proofs.GraphemeSummary.{run_refused, run_whole, run_checked, run_long}
+use borrow.Author.Rules.{rules}
+use Rattle.uax29.proofs.graphemes.graphemes_forward.Goals as goal
+
+pub returns-in_default : goal.returns-in_default
+returns-in_default c = run_refused _ _ _ _ c.judge-verdict.ensures _ c.in_default.is
+
+pub write_starts-requires : goal.write_starts-requires
+write_starts-requires c = search (run_checked, run_long)
+
+pub returns : goal.returns
+returns c = run_whole _ _ _ _ c.judge-verdict.ensures _ c.in-Accepted.is c.write_starts.ensures

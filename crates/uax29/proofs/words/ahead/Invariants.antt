@@ -1,0 +1,13 @@
+use Prim.Native.Nat.{◌-◌}
+use mathlib.Core.Path.{◌≡◌, refl, sym, ◌∙◌}
+use lib.ListN.{length}
+use Rattle.uax29.specs.WordsSeen.{ahead}
+use Rattle.uax29.proofs.WordsWalk.{ahead_here, ahead_passes, ahead_none}
+use borrow.Author.Rules.{rules}
+use Rattle.uax29.proofs.words.ahead.Given as goal
+
+abbrev pub invariant-loop-i : goal.invariant-loop-i
+invariant-loop-i l = ahead l.words l.i (length l.words - l.i) ≡ ahead l.words l.at (length l.words - l.at)
+
+abbrev pub decreases-loop-i : goal.decreases-loop-i
+decreases-loop-i l = length l.words - l.i

@@ -1,0 +1,17 @@
+use Prim.Native.Nat.{◌≤◌, ◌-◌}
+use mathlib.Core.Path.{◌≡◌, refl}
+use lib.ListN.{length}
+use native.Mathlib.Omega.{arith}
+use Rattle.basics.specs.Columns.{cells}
+use Rattle.basics.proofs.Columns.{Written}
+use Rattle.uax29.specs.Words.{boundary_at}
+use Rattle.uax29.specs.WordsSeen.{seen_at}
+use Rattle.uax29.proofs.WordsWalk.{turn_seen, turn_cells}
+use borrow.Author.Rules.{rules}
+use Rattle.uax29.proofs.words.boundaries.Given as goal
+
+abbrev pub invariant-loop-i : goal.invariant-loop-i
+invariant-loop-i l = (l.i ≤ l.initial.out) × ((length l.out ≡ length l.n) × ((l.seen ≡ seen_at l.words l.i) × Written (boundary_at l.words l.pictographs) l.n l.i l.out))
+
+abbrev pub decreases-loop-i : goal.decreases-loop-i
+decreases-loop-i l = l.initial.out - l.i

@@ -1,0 +1,6 @@
+use Rattle.words.proofs.Chain.{by_code}
+use borrow.Author.Rules.{rules}
+use Rattle.words.proofs.Next.is_outside.Goals as goal
+
+pub returns-in-Class : goal.returns-in-Class
+returns-in-Class c = search by_code

@@ -1,0 +1,6 @@
+use mathlib.Core.Path.{◌∙◌}
+use borrow.Author.Rules.{rules}
+use Rattle.words.proofs.WordState.rule.Goals as goal
+
+pub returns : goal.returns
+returns c = c.leave.ensures ∙ simp c.exit.ensures

@@ -1,0 +1,9 @@
+use Rattle.words.proofs.Chain.{steps}
+use borrow.Author.Rules.{rules}
+use Rattle.words.proofs.WordState.step.Goals as goal
+
+pub returns-in_default : goal.returns-in_default
+returns-in_default c = search steps
+
+pub returns : goal.returns
+returns c = search steps

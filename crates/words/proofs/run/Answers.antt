@@ -1,0 +1,15 @@
+use Rattle.records.proofs.Written.{ran_refused, ran_whole, ran_checked, ran_long}
+use Rattle.words.specs.Run.{run_verdict}
+use borrow.Author.Rules.{rules}
+use Rattle.words.proofs.run.Goals as goal
+
+pub returns-in_default : goal.returns-in_default
+unfolding run_verdict
+returns-in_default c = ran_refused _ _ _ _ _ _ c.check_words.ensures c.judge_room-verdict.ensures _ c.in_default.is
+
+pub write_answers-requires : goal.write_answers-requires
+write_answers-requires c = search (ran_checked, ran_long)
+
+pub returns : goal.returns
+unfolding run_verdict
+returns c = ran_whole _ _ _ _ _ _ c.check_words.ensures c.judge_room-verdict.ensures _ c.in-Accepted.is c.write_answers.ensures
