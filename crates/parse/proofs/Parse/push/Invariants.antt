@@ -6,7 +6,7 @@ use Rattle.parse.proofs.Parse.push.Given as goal
 
 -- `parse::Parse::push` meets its contract. Assumes nothing.
 abbrev pub invariant-loop-self : goal.invariant-loop-self
-invariant-loop-self l = Left l.last l.text l.initial.self l.initial.class l.self l.class
+invariant-loop-self l = Left l.text l.initial.self l.initial.class l.last l.self l.class
 
 abbrev pub decreases-loop-self : goal.decreases-loop-self
-decreases-loop-self l = l.initial.class - l.self.at
+decreases-loop-self l = l.last - l.self.at

@@ -13,7 +13,7 @@ use borrow.Author.Rules.{rules}
 use Rattle.uax29.proofs.forward.write_starts.Given as goal
 
 abbrev pub invariant-loop-i : goal.invariant-loop-i
-invariant-loop-i l = (l.i ≤ length l.breaks) × ((length l.out ≡ length l.table) × (Stands (state_at l.breaks l.marks l.i) l.row × Written (start_at l.breaks l.marks) l.table l.i l.out))
+invariant-loop-i l = (l.i ≤ length l.breaks) × ((length l.out ≡ length l.initial.out) × (Stands (state_at l.breaks l.marks l.i) l.row × Written (start_at l.breaks l.marks) l.initial.out l.i l.out))
 
 abbrev pub decreases-loop-i : goal.decreases-loop-i
 decreases-loop-i l = length l.breaks - l.i

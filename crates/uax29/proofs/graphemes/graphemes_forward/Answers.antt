@@ -3,10 +3,10 @@ use borrow.Author.Rules.{rules}
 use Rattle.uax29.proofs.graphemes.graphemes_forward.Goals as goal
 
 pub returns-in_default : goal.returns-in_default
-returns-in_default c = run_refused _ _ _ _ c.judge-verdict.ensures _ c.in_default.is
+returns-in_default c = let all = run_refused _ _ _ _ c.judge-verdict.ensures _ c.in_default.is in record { value = all.0; out_after = all.1 }
 
 pub write_starts-requires : goal.write_starts-requires
 write_starts-requires c = search (run_checked, run_long)
 
 pub returns : goal.returns
-returns c = run_whole _ _ _ _ c.judge-verdict.ensures _ c.in-Accepted.is c.write_starts.ensures
+returns c = let all = run_whole _ _ _ _ c.judge-verdict.ensures _ c.in-Accepted.is c.write_starts.ensures in record { value = all.0; out_after = all.1 }

@@ -11,7 +11,7 @@ use borrow.Author.Rules.{rules}
 use Rattle.uax29.proofs.words.boundaries.Given as goal
 
 abbrev pub invariant-loop-i : goal.invariant-loop-i
-invariant-loop-i l = (l.i ≤ l.initial.out) × ((length l.out ≡ length l.n) × ((l.seen ≡ seen_at l.words l.i) × Written (boundary_at l.words l.pictographs) l.n l.i l.out))
+invariant-loop-i l = (l.i ≤ l.n) × ((length l.out ≡ length l.initial.out) × ((l.seen ≡ seen_at l.words l.i) × Written (boundary_at l.words l.pictographs) l.initial.out l.i l.out))
 
 abbrev pub decreases-loop-i : goal.decreases-loop-i
-decreases-loop-i l = l.initial.out - l.i
+decreases-loop-i l = l.n - l.i

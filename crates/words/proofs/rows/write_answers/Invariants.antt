@@ -13,7 +13,7 @@ use borrow.Author.Rules.{rules}
 use Rattle.words.proofs.rows.write_answers.Given as goal
 
 abbrev pub invariant-loop-i : goal.invariant-loop-i
-invariant-loop-i l = (l.i ≤ length l.words) × ((length l.out ≡ length l.groups) × (Stands (state_at l.words l.pictographs l.i) l.row × Written (answer_at l.words l.pictographs) l.groups l.i l.out))
+invariant-loop-i l = (l.i ≤ length l.words) × ((length l.out ≡ length l.initial.out) × (Stands (state_at l.words l.pictographs l.i) l.row × Written (answer_at l.words l.pictographs) l.initial.out l.i l.out))
 
 abbrev pub decreases-loop-i : goal.decreases-loop-i
 decreases-loop-i l = length l.words - l.i

@@ -1,0 +1,9 @@
+use Rattle.lines.proofs.Arms.{steps}
+use borrow.Author.Rules.{rules}
+use Rattle.lines.proofs.LineState.step.Goals as goal
+
+pub returns-in_default : goal.returns-in_default
+returns-in_default c = search steps
+
+pub returns : goal.returns
+returns c = search steps
