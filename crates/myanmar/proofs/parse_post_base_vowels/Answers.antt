@@ -1,0 +1,20 @@
+use mathlib.Core.Path.{◌≡◌, refl}
+use Rattle.classes.specs.MyanmarClass.{VPst}
+use Rattle.parse.specs.State.{turns}
+use Rattle.parse.specs.Rule.{run, while, is}
+use Rattle.myanmar.specs.Grammar.{post_base_vowel}
+use Rattle.parse.proofs.Rules.{loop_turns, loop_leaves, falls}
+use borrow.Author.Rules.{rules}
+use Rattle.myanmar.proofs.parse_post_base_vowels.Goals as goal
+
+pub loop-s-init : goal.loop-s-init
+loop-s-init c = refl
+
+pub loop-s-smaller : goal.loop-s-smaller
+loop-s-smaller c = unfold post_base_vowel in search falls
+
+pub loop-s-preserved : goal.loop-s-preserved
+loop-s-preserved c = unfold post_base_vowel in search loop_turns
+
+pub returns : goal.returns
+returns c = unfold post_base_vowel in search loop_leaves

@@ -1,0 +1,24 @@
+use mathlib.Core.Path.{◌≡◌, refl}
+use Rattle.classes.specs.MyanmarClass.{H}
+use Rattle.parse.specs.State.{turns}
+use Rattle.parse.specs.Rule.{run, while, is}
+use Rattle.myanmar.specs.Grammar.{stacked}
+use Rattle.parse.proofs.Rules.{loop_turns, loop_leaves, falls}
+use borrow.Author.Rules.{rules}
+use Rattle.myanmar.proofs.parse_stacked.Goals as goal
+
+parse-stacked-consonant-or-vowel-requires :
+    tie.Need-parse-stacked-consonant-or-vowel-requires invariant-loop decreases-loop
+parse-stacked-consonant-or-vowel-requires c κs = search rules
+
+pub loop-s-init : goal.loop-s-init
+loop-s-init c = refl
+
+pub loop-s-smaller : goal.loop-s-smaller
+loop-s-smaller c = unfold stacked in search falls
+
+pub loop-s-preserved : goal.loop-s-preserved
+loop-s-preserved c = unfold stacked in search loop_turns
+
+pub returns : goal.returns
+returns c = unfold stacked in search loop_leaves

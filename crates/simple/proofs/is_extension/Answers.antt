@@ -1,0 +1,6 @@
+use Rattle.simple.specs.Grammar.{is_extension}
+use borrow.Author.Rules.{rules}
+use Rattle.simple.proofs.is_extension.Goals as goal
+
+pub returns : goal.returns
+returns c = unfold is_extension in c.kind_in3.ensures

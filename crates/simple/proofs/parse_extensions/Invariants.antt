@@ -1,0 +1,14 @@
+use mathlib.Core.Path.{◌≡◌, refl}
+use Rattle.parse.specs.State.{turns}
+use Rattle.parse.specs.Rule.{run, while}
+use Rattle.parse.proofs.Rules.{loop_turns, loop_leaves, falls}
+use Rattle.simple.specs.Grammar.{is_extension, extension, extend, combining}
+use borrow.Author.Rules.{rules}
+use Rattle.simple.proofs.parse_extensions.Given as goal
+
+-- `simple::parse_extensions` meets its contract. Assumes nothing.
+abbrev pub invariant-loop-s : goal.invariant-loop-s
+invariant-loop-s l = run (while is_extension extension) l.text l.s ≡ run (while is_extension extension) l.text l.initial.s
+
+abbrev pub decreases-loop-s : goal.decreases-loop-s
+decreases-loop-s l = turns l.text l.s

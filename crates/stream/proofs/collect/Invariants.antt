@@ -1,0 +1,14 @@
+use Rattle.records.specs.Text.{text_in}
+use Rattle.stream.specs.Stream.{source_of, splits_of}
+use Rattle.stream.proofs.Stream.{Collecting, collect_starts, collect_whole, collect_part, collect_last, collect_full, collect_over, split_whole}
+use lib.ListN.{length}
+use Prim.Native.Nat.{◌-◌}
+use native.Mathlib.Omega.{arith}
+use borrow.Author.Rules.{rules}
+use Rattle.stream.proofs.collect.Given as goal
+
+abbrev pub invariant-loop-i : goal.invariant-loop-i
+invariant-loop-i l = Collecting l.mode l.khmer (source_of (text_in l.wides l.bytes l.firsts).records (text_in l.wides l.bytes l.firsts).records.uses (text_in l.wides l.bytes l.firsts).records.cemojis) (splits_of (text_in l.wides l.bytes l.firsts).records) (text_in l.wides l.bytes l.firsts).parts l.n l.initial.out l.out l.filled l.i l.k
+
+abbrev pub decreases-loop-i : goal.decreases-loop-i
+decreases-loop-i l = length l.initial.out - l.filled

@@ -1,0 +1,17 @@
+use Rattle.records.specs.Text.{text_in}
+use Rattle.stream.specs.Stream.{split_in}
+use Rattle.stream.specs.Inner.{rest}
+use Rattle.stream.proofs.Stream.{rest_over}
+use Rattle.stream.proofs.Taking.{taken_here, taken_on}
+use mathlib.Core.Path.{◌≡◌, refl, ◌∙◌, ap}
+use Prim.Native.Nat.{◌-◌}
+use native.Mathlib.Omega.{arith}
+use lib.ListN.{length}
+use borrow.Author.Rules.{rules}
+use Rattle.stream.proofs.spots.take.Given as goal
+
+abbrev pub invariant-loop-i : goal.invariant-loop-i
+invariant-loop-i l = rest (split_in l.mode l.khmer (text_in l.wides l.bytes l.firsts)) (length (text_in l.wides l.bytes l.firsts).records.scalars) l.initial.i l.initial.k ≡ rest (split_in l.mode l.khmer (text_in l.wides l.bytes l.firsts)) (length (text_in l.wides l.bytes l.firsts).records.scalars) l.i l.k
+
+abbrev pub decreases-loop-i : goal.decreases-loop-i
+decreases-loop-i l = l.n - l.i
