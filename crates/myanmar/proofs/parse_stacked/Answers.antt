@@ -7,10 +7,6 @@ use Rattle.parse.proofs.Rules.{loop_turns, loop_leaves, falls}
 use borrow.Author.Rules.{rules}
 use Rattle.myanmar.proofs.parse_stacked.Goals as goal
 
-parse-stacked-consonant-or-vowel-requires :
-    tie.Need-parse-stacked-consonant-or-vowel-requires invariant-loop decreases-loop
-parse-stacked-consonant-or-vowel-requires c κs = search rules
-
 pub loop-s-init : goal.loop-s-init
 loop-s-init c = refl
 
