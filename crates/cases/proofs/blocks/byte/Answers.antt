@@ -1,0 +1,6 @@
+use Rattle.cases.proofs.Pairs.{byte_read}
+use borrow.Author.Rules.{rules}
+use Rattle.cases.proofs.blocks.byte.Goals as goal
+
+pub returns : goal.returns
+returns c = search byte_read

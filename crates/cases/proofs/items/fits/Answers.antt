@@ -1,0 +1,9 @@
+use Rattle.cases.proofs.Fields.{fields}
+use borrow.Author.Rules.{rules}
+use Rattle.cases.proofs.items.fits.Goals as goal
+
+pub returns-in-Value : goal.returns-in-Value
+returns-in-Value c = search fields
+
+pub returns-in-Nothing : goal.returns-in-Nothing
+returns-in-Nothing c = search fields

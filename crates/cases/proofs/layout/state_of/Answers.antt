@@ -1,0 +1,6 @@
+use Rattle.cases.proofs.Asks.{state_read}
+use borrow.Author.Rules.{rules}
+use Rattle.cases.proofs.layout.state_of.Goals as goal
+
+pub returns : goal.returns
+returns c = search state_read

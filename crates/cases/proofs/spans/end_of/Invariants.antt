@@ -1,0 +1,13 @@
+use Rattle.cases.proofs.Splits.{end_here, end_pass, end_over}
+use Rattle.cases.specs.Spans.{before}
+use lib.ListN.{length, drop}
+use mathlib.Core.Path.{◌≡◌, refl}
+use Prim.Native.Nat.{◌+◌, ◌-◌}
+use borrow.Author.Rules.{rules}
+use Rattle.cases.proofs.spans.end_of.Given as goal
+
+abbrev pub invariant-loop-i : goal.invariant-loop-i
+invariant-loop-i l = l.i + before l.s (drop l.i l.xs) ≡ l.at + before l.s (drop l.at l.xs)
+
+abbrev pub decreases-loop-i : goal.decreases-loop-i
+decreases-loop-i l = length l.xs - l.i

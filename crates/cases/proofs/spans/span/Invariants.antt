@@ -1,0 +1,14 @@
+use native.Mathlib.Omega.{arith}
+use Rattle.cases.proofs.Splits.{rest_more, span_read}
+use Rattle.cases.specs.Spans.{rest}
+use lib.ListN.{drop}
+use mathlib.Core.Path.{◌≡◌, refl}
+use Prim.Native.Nat.{◌-◌, ◌≤◌}
+use borrow.Author.Rules.{rules}
+use Rattle.cases.proofs.spans.span.Given as goal
+
+abbrev pub invariant-loop-i : goal.invariant-loop-i
+invariant-loop-i l = (l.i ≤ l.k) × (drop l.at l.xs ≡ rest l.s l.i l.xs)
+
+abbrev pub decreases-loop-i : goal.decreases-loop-i
+decreases-loop-i l = l.k - l.i

@@ -1,0 +1,6 @@
+use Rattle.cases.proofs.Laid.{value_read}
+use borrow.Author.Rules.{rules}
+use Rattle.cases.proofs.table.cell.Goals as goal
+
+pub returns : goal.returns
+returns c = search value_read

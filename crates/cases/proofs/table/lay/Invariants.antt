@@ -1,0 +1,14 @@
+use Prim.Native.Nat.{◌-◌, ◌≤◌}
+use mathlib.Core.Path.{◌≡◌}
+use lib.ListN.{replicate}
+use lib.Seq.{sets}
+use native.Mathlib.Omega.{arith}
+use Rattle.cases.proofs.Laid.{lay_none, lay_more}
+use borrow.Author.Rules.{rules}
+use Rattle.cases.proofs.table.lay.Given as goal
+
+abbrev pub invariant-loop-i : goal.invariant-loop-i
+invariant-loop-i l = (l.from ≤ l.i) × ((l.i - l.from ≤ l.end - l.from) × (l.out ≡ sets l.initial.out l.from (replicate (l.i - l.from) l.v)))
+
+abbrev pub decreases-loop-i : goal.decreases-loop-i
+decreases-loop-i l = l.end - l.i

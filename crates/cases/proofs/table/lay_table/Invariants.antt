@@ -1,0 +1,16 @@
+use Prim.Native.Nat.{◌+◌, ◌-◌, ◌≤◌}
+use mathlib.Core.Path.{◌≡◌, refl}
+use lib.ListN.{length, take, drop}
+use lib.Seq.{sets}
+use Rattle.cases.specs.Table.{table_to, reached, kept_of, most_kept}
+use Rattle.cases.specs.Spans.{rest}
+use Rattle.cases.proofs.Splits.{rest_more, count_bound}
+use Rattle.cases.proofs.Laid.{kept_next, laid_next, none_kept, none_laid, all_kept, all_laid}
+use borrow.Author.Rules.{rules}
+use Rattle.cases.proofs.table.lay_table.Given as goal
+
+abbrev pub invariant-loop-i : goal.invariant-loop-i
+invariant-loop-i l = (l.last ≤ length l.section) × ((l.i ≤ l.last + 1) × ((l.n ≤ most_kept) × ((drop l.at l.section ≡ rest 32 l.i l.section) × ((l.n ≡ kept_of (length (table_to l.section l.i))) × (l.out ≡ sets l.initial.out 0 (take reached (table_to l.section l.i)))))))
+
+abbrev pub decreases-loop-i : goal.decreases-loop-i
+decreases-loop-i l = l.last + 1 - l.i

@@ -1,0 +1,7 @@
+use Rattle.segment.specs.Calls.{end}
+use borrow.Author.Rules.{rules}
+use Rattle.segment.proofs.Segmenter.end.Goals as goal
+
+pub returns : goal.returns
+unfolding end
+returns c = simp c.empty.ensures

@@ -1,0 +1,6 @@
+use Rattle.segment.proofs.CallLaws.{count_fits}
+use borrow.Author.Rules.{rules}
+use Rattle.segment.proofs.Segmenter.next_accepted.Goals as goal
+
+pub returns : goal.returns
+returns c = λ w. c.next_array.ensures (count_fits _ _ _ _ w c.count_of-n.ensures) w
