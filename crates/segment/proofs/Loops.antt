@@ -6,7 +6,7 @@ use mathlib.Core.List.{List}
 use native.Mathlib.Omega.{arith}
 use lib.Dec.{eqb, ltb}
 use lib.ListN.{length, get_or, set, length-set}
-use denote.Ref.{Bor}
+use denote.Ref.{MutBor}
 use denote.Triple.Both.{Both}
 use borrow.Author.Tests.{lt-ltb, eq-eqb, ne_eqb, ltb-true, ltb-false, eqb-true, eqb-false}
 use Rattle.basics.proofs.Tests.{by_test, both_of}
@@ -271,7 +271,7 @@ module _ (parser : Parser) (mode : Mode) (text scalars₀ classes₀ clusters₀
           (λ b. rw (a, b) (writes (eqb-false (done_by v) 3 a) (eqb-false (done_by v) 2 b))))
 
       -- with the values as the code has them
-      pub goes_turn : (r : Going) (os oc on : Both (Bor (List ℕ)) (Bor (List ℕ))) → os.entry.now ≡ scalars → oc.entry.now ≡ classes → on.entry.now ≡ clusters → r ≡ turned g v → Wrote g v x os oc on → Goes r os.exit.now oc.exit.now on.exit.now
+      pub goes_turn : (r : Going) (os oc on : Both (MutBor (List ℕ)) (MutBor (List ℕ))) → os.entry.now ≡ scalars → oc.entry.now ≡ classes → on.entry.now ≡ clusters → r ≡ turned g v → Wrote g v x os oc on → Goes r os.exit.now oc.exit.now on.exit.now
       goes_turn r os oc on es ec en er u =
           subst (λ (r : Going). Goes r os.exit.now oc.exit.now on.exit.now) (sym er)
           (subst (λ l. Goes (turned g v) l oc.exit.now on.exit.now) (sym (u.scalar ∙ ap (λ l. put_by v g.characters x l) es ∙ ap (λ x. put_by v g.characters x scalars) looked.scalar))

@@ -1,6 +1,6 @@
 -- What only private contracts need. A run by a table under way, on numbers: what one cell makes of it.
 use Rattle.std.specs.Prelude.{ℕ, ◌+◌, ◌-◌, ◌/◌, ◌%◌, ◌<◌, ◌≤◌, ◌≡◌, Bool, true, false, cond, List, eqb, ltb, length, set}
-use Rattle.std.specs.Borrow.{Bor}
+use Rattle.std.specs.Borrow.{MutBor}
 use denote.Triple.Both.{Both}
 use Rattle.classes.specs.ClusterBreak.{CR, LF}
 use Rattle.classes.specs.declared.Mode.{Mode}
@@ -72,7 +72,7 @@ unfoldable pub put_by : ℕ → ℕ → ℕ → List ℕ → List ℕ
 put_by v o x cells = cond (eqb (done_by v) 3) cells (cond (eqb (done_by v) 2) cells (set cells o x))
 
 -- the three columns after that, of a character of scalar x
-pub record Wrote (g : Going) (v x : ℕ) (os oc on : Both (Bor (List ℕ)) (Bor (List ℕ))) : Type 0 where
+pub record Wrote (g : Going) (v x : ℕ) (os oc on : Both (MutBor (List ℕ)) (MutBor (List ℕ))) : Type 0 where
   pub scalar : os.exit.now ≡ put_by v g.characters x os.entry.now
   pub class : oc.exit.now ≡ put_by v g.characters (v % 16) oc.entry.now
   pub cluster : on.exit.now ≡ put_by v g.characters (g.clusters + done_by v - 1) on.entry.now

@@ -7,11 +7,11 @@ use Rattle.segment.proofs.calls.call.Goals as goal
 
 pub returns-in-Simple : goal.returns-in-Simple
 unfolding grammar
-returns-in-Simple c = call_is _ _ _ _ _ _ _ _ (ap grammar c.in-Simple.is) c.Joins-of.ensures c.begin-s.ensures c.parse.ensures
+returns-in-Simple c = call_is _ _ _ _ _ _ _ _ (ap grammar c.in-Simple.is) c.joins_of.ensures c.begin-s.ensures c.parse.ensures
 
 pub returns-in-Myanmar : goal.returns-in-Myanmar
 unfolding grammar
-returns-in-Myanmar c = call_is _ _ _ _ _ _ _ _ (ap grammar c.in-Myanmar.is) c.Joins-of.ensures c.begin-s.ensures c.parse-in-Myanmar.ensures
+returns-in-Myanmar c = call_is _ _ _ _ _ _ _ _ (ap grammar c.in-Myanmar.is) c.joins_of.ensures c.begin-s.ensures c.parse-in-Myanmar.ensures
 
 pub returns-in-Complex : goal.returns-in-Complex
-returns-in-Complex c = call_is _ _ _ _ _ _ _ _ (complex_is _ c.in-Simple.keys3 ∙ ap cluster (sym c.is_khmer.ensures)) c.Joins-of.ensures c.begin-s.ensures c.parse-in-Complex.ensures
+returns-in-Complex c = call_is _ _ _ _ _ _ _ _ (complex_is _ c.in-Complex.in-Complex-own.keys3 ∙ ap cluster (sym c.is_khmer.ensures)) c.joins_of.ensures c.begin-s.ensures c.parse-in-Complex.ensures

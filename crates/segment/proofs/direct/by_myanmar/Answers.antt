@@ -53,14 +53,14 @@ shape_of-oclusters-then-gives_up c = (c.loop-scalars.invariant c.requires.roomy 
 
 pub returns-then-gives_up : goal.returns-then-gives_up
 unfolding text_in
-returns-then-gives_up c = goes_leave _ _ _ _ _ _ c.requires.roomy c.requires.regular _ _ _ _ (c.loop-scalars.invariant c.requires.roomy c.requires.regular) _ _ (looked_up _ _ _ _ _ _ _ _ _ _ _ refl (omega (arith, (turn_inside c.loop-scalars.g c.length32-n.result _ _ c.goes_on.ensures c.loop-scalars-test.true c.is_full.ensures c.if-is_full.false), c.length32-n.ensures.0, seen_long Myanmar (text_in c.args.wides.now c.args.bytes.now c.args.firsts.now))) c.is_full.ensures c.if-is_full.false c.token_at-t.ensures c.scalar-x.ensures c.cell-v.ensures refl (unfold table_of myanmar_table in refl) (index_seen _ _ _ _ _ _ c.requires.even _ _ _ _ _ c.token_at-t.ensures c.myanmar_index-index.ensures)) _ _ c.Gives-up.ensures c.if-gives_up.true c.stand.ensures
+returns-then-gives_up c = goes_leave _ _ _ _ _ _ c.requires.roomy c.requires.regular _ _ _ _ (c.loop-scalars.invariant c.requires.roomy c.requires.regular) _ _ (looked_up _ _ _ _ _ _ _ _ _ _ _ refl (omega (arith, (turn_inside c.loop-scalars.g c.length32-n.result _ _ c.goes_on.ensures c.loop-scalars-test.true c.is_full.ensures c.if-is_full.false), c.length32-n.ensures.0, seen_long Myanmar (text_in c.args.wides.now c.args.bytes.now c.args.firsts.now))) c.is_full.ensures c.if-is_full.false c.token_at-t.ensures c.scalar-x.ensures c.cell-v.ensures refl (unfold table_of myanmar_table in refl) (index_seen _ _ _ _ _ _ c.requires.even _ _ _ _ _ c.token_at-t.ensures c.myanmar_index-index.ensures)) _ _ c.gives_up.ensures c.if-gives_up.true c.stand.ensures
 
 pub turn-g-requires : goal.turn-g-requires
 unfolding text_in
 turn-g-requires c = goes_room _ _ _ _ _ _ c.requires.roomy c.requires.regular _ _ _ _ (c.loop-scalars.invariant c.requires.roomy c.requires.regular) (omega (arith, (turn_inside c.loop-scalars.g c.length32-n.result _ _ c.goes_on.ensures c.loop-scalars-test.true c.is_full.ensures c.if-is_full.false), c.length32-n.ensures.0, seen_long Myanmar (text_in c.args.wides.now c.args.bytes.now c.args.firsts.now)))
 
 pub loop-scalars-smaller : goal.loop-scalars-smaller
-loop-scalars-smaller c = turn_falls _ _ _ _ _ (turn_inside c.loop-scalars.g c.length32-n.result _ _ c.goes_on.ensures c.loop-scalars-test.true c.is_full.ensures c.if-is_full.false) (c.loop-scalars.invariant c.requires.roomy c.requires.regular).low c.Gives-up.ensures c.if-gives_up.false c.turn-g.ensures.0
+loop-scalars-smaller c = turn_falls _ _ _ _ _ (turn_inside c.loop-scalars.g c.length32-n.result _ _ c.goes_on.ensures c.loop-scalars-test.true c.is_full.ensures c.if-is_full.false) (c.loop-scalars.invariant c.requires.roomy c.requires.regular).low c.gives_up.ensures c.if-gives_up.false c.turn-g.ensures.0
 
 pub loop-scalars-preserved : goal.loop-scalars-preserved
 unfolding text_in

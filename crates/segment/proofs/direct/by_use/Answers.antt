@@ -52,14 +52,14 @@ shape_of-oclusters-then-gives_up c = (c.loop-scalars.invariant c.requires.1.room
 
 pub returns-then-gives_up : goal.returns-then-gives_up
 unfolding text_in
-returns-then-gives_up c = goes_leave _ _ _ _ _ _ c.requires.1.roomy c.requires.1.regular _ _ _ _ (c.loop-scalars.invariant c.requires.1.roomy c.requires.1.regular) _ _ (looked_up _ _ _ _ _ _ _ _ _ _ _ (crowds_use c.args.khmer _ _ _ _ _ _) (omega (arith, (turn_inside c.loop-scalars.g c.length32-n.result _ _ c.goes_on.ensures c.loop-scalars-test.true c.is_full.ensures c.if-is_full.false), c.length32-n.ensures.0, seen_long (use_parser c.args.khmer) (text_in c.args.wides.now c.args.bytes.now c.args.firsts.now))) c.is_full.ensures c.if-is_full.false (c.token_at-t.ensures ∙ ap (λ l. token_at l c.loop-scalars.g.at) (kinds_use c.args.khmer (text_in c.args.wides.now c.args.bytes.now c.args.firsts.now))) c.scalar-x.ensures c.cell-v.ensures (joins_use c.args.khmer) c.requires.0 (index_use c.args.khmer _ _ _ _ _ _ c.use_index.ensures (c.token_at-t.ensures ∙ ap (λ l. token_at l c.loop-scalars.g.at) (kinds_use c.args.khmer (text_in c.args.wides.now c.args.bytes.now c.args.firsts.now))))) _ _ c.Gives-up.ensures c.if-gives_up.true c.stand.ensures
+returns-then-gives_up c = goes_leave _ _ _ _ _ _ c.requires.1.roomy c.requires.1.regular _ _ _ _ (c.loop-scalars.invariant c.requires.1.roomy c.requires.1.regular) _ _ (looked_up _ _ _ _ _ _ _ _ _ _ _ (crowds_use c.args.khmer _ _ _ _ _ _) (omega (arith, (turn_inside c.loop-scalars.g c.length32-n.result _ _ c.goes_on.ensures c.loop-scalars-test.true c.is_full.ensures c.if-is_full.false), c.length32-n.ensures.0, seen_long (use_parser c.args.khmer) (text_in c.args.wides.now c.args.bytes.now c.args.firsts.now))) c.is_full.ensures c.if-is_full.false (c.token_at-t.ensures ∙ ap (λ l. token_at l c.loop-scalars.g.at) (kinds_use c.args.khmer (text_in c.args.wides.now c.args.bytes.now c.args.firsts.now))) c.scalar-x.ensures c.cell-v.ensures (joins_use c.args.khmer) c.requires.0 (index_use c.args.khmer _ _ _ _ _ _ c.use_index.ensures (c.token_at-t.ensures ∙ ap (λ l. token_at l c.loop-scalars.g.at) (kinds_use c.args.khmer (text_in c.args.wides.now c.args.bytes.now c.args.firsts.now))))) _ _ c.gives_up.ensures c.if-gives_up.true c.stand.ensures
 
 pub turn-g-requires : goal.turn-g-requires
 unfolding text_in
 turn-g-requires c = goes_room _ _ _ _ _ _ c.requires.1.roomy c.requires.1.regular _ _ _ _ (c.loop-scalars.invariant c.requires.1.roomy c.requires.1.regular) (omega (arith, (turn_inside c.loop-scalars.g c.length32-n.result _ _ c.goes_on.ensures c.loop-scalars-test.true c.is_full.ensures c.if-is_full.false), c.length32-n.ensures.0, seen_long (use_parser c.args.khmer) (text_in c.args.wides.now c.args.bytes.now c.args.firsts.now)))
 
 pub loop-scalars-smaller : goal.loop-scalars-smaller
-loop-scalars-smaller c = turn_falls _ _ _ _ _ (turn_inside c.loop-scalars.g c.length32-n.result _ _ c.goes_on.ensures c.loop-scalars-test.true c.is_full.ensures c.if-is_full.false) (c.loop-scalars.invariant c.requires.1.roomy c.requires.1.regular).low c.Gives-up.ensures c.if-gives_up.false c.turn-g.ensures.0
+loop-scalars-smaller c = turn_falls _ _ _ _ _ (turn_inside c.loop-scalars.g c.length32-n.result _ _ c.goes_on.ensures c.loop-scalars-test.true c.is_full.ensures c.if-is_full.false) (c.loop-scalars.invariant c.requires.1.roomy c.requires.1.regular).low c.gives_up.ensures c.if-gives_up.false c.turn-g.ensures.0
 
 pub loop-scalars-preserved : goal.loop-scalars-preserved
 unfolding text_in

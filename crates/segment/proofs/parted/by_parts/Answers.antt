@@ -54,7 +54,7 @@ shape_of-oclusters-then-gives_up c = (c.loop-scalars.invariant.0 c.requires.1.ro
 
 pub returns-then-gives_up : goal.returns-then-gives_up
 unfolding text_in
-returns-then-gives_up c = goes_leave _ _ _ _ _ _ c.requires.1.roomy c.requires.1.regular _ _ _ _ (c.loop-scalars.invariant.0 c.requires.1.roomy c.requires.1.regular) _ _ (looked_up _ _ _ _ _ _ _ _ _ _ _ (crowds_use c.args.khmer _ _ _ _ _ _) (omega (arith, (turn_inside c.loop-scalars.g c.args.tokens _ _ c.goes_on.ensures c.loop-scalars-test.true c.is_full.ensures c.if-is_full.false), c.requires.1.count)) c.is_full.ensures c.if-is_full.false (placed_token c.args.mode c.args.khmer (text_in c.args.wides.now c.args.bytes.now c.args.firsts.now) c.loop-scalars.g c.loop-scalars.s c.loop-scalars.invariant.1 (eqb-false _ _ (sym c.is_full.ensures ∙ c.if-is_full.false)) (omega (arith, (turn_inside c.loop-scalars.g c.args.tokens _ _ c.goes_on.ensures c.loop-scalars-test.true c.is_full.ensures c.if-is_full.false), c.requires.1.count)) _ c.taken_at-taken.ensures) c.scalar-x.ensures c.cell-v.ensures (joins_use c.args.khmer) c.requires.0 (index_use c.args.khmer _ _ _ _ _ _ c.use_index.ensures (placed_token c.args.mode c.args.khmer (text_in c.args.wides.now c.args.bytes.now c.args.firsts.now) c.loop-scalars.g c.loop-scalars.s c.loop-scalars.invariant.1 (eqb-false _ _ (sym c.is_full.ensures ∙ c.if-is_full.false)) (omega (arith, (turn_inside c.loop-scalars.g c.args.tokens _ _ c.goes_on.ensures c.loop-scalars-test.true c.is_full.ensures c.if-is_full.false), c.requires.1.count)) _ c.taken_at-taken.ensures))) _ _ c.Gives-up.ensures c.if-gives_up.true c.stand.ensures
+returns-then-gives_up c = goes_leave _ _ _ _ _ _ c.requires.1.roomy c.requires.1.regular _ _ _ _ (c.loop-scalars.invariant.0 c.requires.1.roomy c.requires.1.regular) _ _ (looked_up _ _ _ _ _ _ _ _ _ _ _ (crowds_use c.args.khmer _ _ _ _ _ _) (omega (arith, (turn_inside c.loop-scalars.g c.args.tokens _ _ c.goes_on.ensures c.loop-scalars-test.true c.is_full.ensures c.if-is_full.false), c.requires.1.count)) c.is_full.ensures c.if-is_full.false (placed_token c.args.mode c.args.khmer (text_in c.args.wides.now c.args.bytes.now c.args.firsts.now) c.loop-scalars.g c.loop-scalars.s c.loop-scalars.invariant.1 (eqb-false _ _ (sym c.is_full.ensures ∙ c.if-is_full.false)) (omega (arith, (turn_inside c.loop-scalars.g c.args.tokens _ _ c.goes_on.ensures c.loop-scalars-test.true c.is_full.ensures c.if-is_full.false), c.requires.1.count)) _ c.taken_at-taken.ensures) c.scalar-x.ensures c.cell-v.ensures (joins_use c.args.khmer) c.requires.0 (index_use c.args.khmer _ _ _ _ _ _ c.use_index.ensures (placed_token c.args.mode c.args.khmer (text_in c.args.wides.now c.args.bytes.now c.args.firsts.now) c.loop-scalars.g c.loop-scalars.s c.loop-scalars.invariant.1 (eqb-false _ _ (sym c.is_full.ensures ∙ c.if-is_full.false)) (omega (arith, (turn_inside c.loop-scalars.g c.args.tokens _ _ c.goes_on.ensures c.loop-scalars-test.true c.is_full.ensures c.if-is_full.false), c.requires.1.count)) _ c.taken_at-taken.ensures))) _ _ c.gives_up.ensures c.if-gives_up.true c.stand.ensures
 
 pub turn-g-requires : goal.turn-g-requires
 unfolding text_in
@@ -62,7 +62,7 @@ turn-g-requires c = goes_room _ _ _ _ _ _ c.requires.1.roomy c.requires.1.regula
 
 pub loop-scalars-smaller : goal.loop-scalars-smaller
 unfolding text_in
-loop-scalars-smaller c = turn_falls _ _ _ _ _ (turn_inside c.loop-scalars.g c.args.tokens _ _ c.goes_on.ensures c.loop-scalars-test.true c.is_full.ensures c.if-is_full.false) (c.loop-scalars.invariant.0 c.requires.1.roomy c.requires.1.regular).low c.Gives-up.ensures c.if-gives_up.false c.turn-g.ensures.0
+loop-scalars-smaller c = turn_falls _ _ _ _ _ (turn_inside c.loop-scalars.g c.args.tokens _ _ c.goes_on.ensures c.loop-scalars-test.true c.is_full.ensures c.if-is_full.false) (c.loop-scalars.invariant.0 c.requires.1.roomy c.requires.1.regular).low c.gives_up.ensures c.if-gives_up.false c.turn-g.ensures.0
 
 pub loop-scalars-preserved : goal.loop-scalars-preserved
 unfolding text_in

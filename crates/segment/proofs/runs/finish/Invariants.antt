@@ -10,7 +10,7 @@ use borrow.Author.Rules.{rules}
 use Rattle.segment.proofs.runs.finish.Given as goal
 
 abbrev pub invariant-loop-at : goal.invariant-loop-at
-invariant-loop-at l = Stood l.parser l.mode l.text l.oscalars l.oclasses l.oclusters (record { l.at = l.at; l.clusters = l.clusters; l.characters = l.characters })
+invariant-loop-at l = Stood l.parser l.mode l.text l.oscalars l.oclasses l.oclusters (record { at = l.at; clusters = l.clusters; characters = l.characters })
     × ((s₀ c₀ n₀ : List ℕ) → Roomy l.text s₀ c₀ n₀ → Running l.parser l.mode l.text s₀ c₀ n₀ l.initial.oscalars l.initial.oclasses l.initial.oclusters l.initial.at l.initial.clusters l.initial.characters → Running l.parser l.mode l.text s₀ c₀ n₀ l.oscalars l.oclasses l.oclusters l.at l.clusters l.characters)
 
 abbrev pub decreases-loop-at : goal.decreases-loop-at

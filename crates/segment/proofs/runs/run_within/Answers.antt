@@ -7,7 +7,7 @@ use borrow.Author.Rules.{rules}
 use Rattle.segment.proofs.runs.run_within.Goals as goal
 
 pub slice_bounds-text-end-2 : goal.slice_bounds-text-end-2
-slice_bounds-text-end-2 c = sym (length-take-le c.tokens_of-n.result c.tokens_of-n.new.1.1.1.1.1.0 (omega (arith, c.tokens_of-n.ensures.number, c.tokens_of-n.auto.1.1.1.1.1.0)))
+slice_bounds-text-end-2 c = sym (length-take-le c.tokens_of-n.result c.tokens_of-n.new.out (omega (arith, c.tokens_of-n.ensures.number, c.tokens_of-n.auto.out)))
 
 pub tabled-s-requires : goal.tabled-s-requires
 tabled-s-requires c = stands_in_lem _ _ _ _ _ _ _ _ (all_fits _ _ _ _ c.tokens_of-n.ensures c.requires.fits) c.requires.stands

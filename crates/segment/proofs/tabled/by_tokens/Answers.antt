@@ -44,13 +44,13 @@ pub shape_of-oclusters-then-gives_up : goal.shape_of-oclusters-then-gives_up
 shape_of-oclusters-then-gives_up c = (c.loop-mode.invariant c.requires.1.1 c.requires.1.0).cluster
 
 pub returns-then-gives_up : goal.returns-then-gives_up
-returns-then-gives_up c = goes_leave _ _ _ _ _ _ c.requires.1.1 c.requires.1.0 _ _ _ _ (c.loop-mode.invariant c.requires.1.1 c.requires.1.0) _ _ (looked_up _ _ _ _ _ _ _ _ _ _ _ (crowds_use c.args.khmer _ _ _ _ _ _) (turn_inside c.loop-mode.g (length c.args.text.now) _ _ c.goes_on.ensures c.loop-mode-test.true c.is_full.ensures c.if-is_full.false) c.is_full.ensures c.if-is_full.false refl c.scalar-x.ensures c.cell-v.ensures (joins_use c.args.khmer) c.requires.0 (index_use c.args.khmer _ _ _ _ _ _ c.use_index.ensures refl)) _ _ c.Gives-up.ensures c.if-gives_up.true c.stand.ensures
+returns-then-gives_up c = goes_leave _ _ _ _ _ _ c.requires.1.1 c.requires.1.0 _ _ _ _ (c.loop-mode.invariant c.requires.1.1 c.requires.1.0) _ _ (looked_up _ _ _ _ _ _ _ _ _ _ _ (crowds_use c.args.khmer _ _ _ _ _ _) (turn_inside c.loop-mode.g (length c.args.text.now) _ _ c.goes_on.ensures c.loop-mode-test.true c.is_full.ensures c.if-is_full.false) c.is_full.ensures c.if-is_full.false refl c.scalar-x.ensures c.cell-v.ensures (joins_use c.args.khmer) c.requires.0 (index_use c.args.khmer _ _ _ _ _ _ c.use_index.ensures refl)) _ _ c.gives_up.ensures c.if-gives_up.true c.stand.ensures
 
 pub turn-g-requires : goal.turn-g-requires
 turn-g-requires c = goes_room _ _ _ _ _ _ c.requires.1.1 c.requires.1.0 _ _ _ _ (c.loop-mode.invariant c.requires.1.1 c.requires.1.0) (turn_inside c.loop-mode.g (length c.args.text.now) _ _ c.goes_on.ensures c.loop-mode-test.true c.is_full.ensures c.if-is_full.false)
 
 pub loop-mode-smaller : goal.loop-mode-smaller
-loop-mode-smaller c = turn_falls _ _ _ _ _ (turn_inside c.loop-mode.g (length c.args.text.now) _ _ c.goes_on.ensures c.loop-mode-test.true c.is_full.ensures c.if-is_full.false) (c.loop-mode.invariant c.requires.1.1 c.requires.1.0).low c.Gives-up.ensures c.if-gives_up.false c.turn-g.ensures.0
+loop-mode-smaller c = turn_falls _ _ _ _ _ (turn_inside c.loop-mode.g (length c.args.text.now) _ _ c.goes_on.ensures c.loop-mode-test.true c.is_full.ensures c.if-is_full.false) (c.loop-mode.invariant c.requires.1.1 c.requires.1.0).low c.gives_up.ensures c.if-gives_up.false c.turn-g.ensures.0
 
 pub loop-mode-preserved : goal.loop-mode-preserved
 loop-mode-preserved c = λ r q. goes_turn _ _ _ _ _ _ r q _ _ _ _ (c.loop-mode.invariant r q) _ _ (looked_up _ _ _ _ _ _ _ _ _ _ _ (crowds_use c.args.khmer _ _ _ _ _ _) (turn_inside c.loop-mode.g (length c.args.text.now) _ _ c.goes_on.ensures c.loop-mode-test.true c.is_full.ensures c.if-is_full.false) c.is_full.ensures c.if-is_full.false refl c.scalar-x.ensures c.cell-v.ensures (joins_use c.args.khmer) c.requires.0 (index_use c.args.khmer _ _ _ _ _ _ c.use_index.ensures refl)) _ _ _ _ refl refl refl c.turn-g.ensures.0 c.turn-g.ensures.1

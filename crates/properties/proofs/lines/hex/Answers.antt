@@ -1,0 +1,6 @@
+use Rattle.properties.specs.Lines.{hex}
+use borrow.Author.Rules.{rules}
+use Rattle.properties.proofs.lines.hex.Goals as goal
+
+pub returns : goal.returns
+returns c = unfold hex in c.read_number.ensures

@@ -1,0 +1,14 @@
+use Rattle.records.proofs.Any.{Left, any_hit, any_pass, any_over}
+use Rattle.properties.proofs.Grammar.{value_none, value_by}
+use Rattle.properties.specs.Lines.{is_between}
+use lib.ListN.{length}
+use mathlib.Core.Path.{refl, sym, ◌∙◌}
+use Prim.Native.Nat.{◌-◌}
+use borrow.Author.Rules.{rules}
+use Rattle.properties.proofs.lines.is_no_value.Given as goal
+
+abbrev pub invariant-loop-i : goal.invariant-loop-i
+invariant-loop-i l = Left is_between l.value l.i
+
+abbrev pub decreases-loop-i : goal.decreases-loop-i
+decreases-loop-i l = length l.value - l.i

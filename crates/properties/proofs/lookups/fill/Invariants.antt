@@ -1,0 +1,16 @@
+use Prim.Native.Nat.{◌≤◌, ◌-◌}
+use mathlib.Core.Path.{◌≡◌, refl}
+use lib.ListN.{length}
+use native.Mathlib.Omega.{arith}
+use Rattle.basics.specs.Columns.{cells}
+use Rattle.basics.proofs.Columns.{Written}
+use Rattle.properties.specs.Ranges.{ranges, class_at}
+use Rattle.properties.proofs.Fills.{count_reach, filled_more}
+use borrow.Author.Rules.{rules}
+use Rattle.properties.proofs.lookups.fill.Given as goal
+
+abbrev pub invariant-loop-i : goal.invariant-loop-i
+invariant-loop-i l = (l.i ≤ length l.scalars) × ((length l.out ≡ length l.initial.out) × Written (class_at (ranges l.firsts l.lasts l.codes l.held) l.scalars) l.initial.out l.i l.out)
+
+abbrev pub decreases-loop-i : goal.decreases-loop-i
+decreases-loop-i l = length l.scalars - l.i

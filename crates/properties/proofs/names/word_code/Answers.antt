@@ -1,0 +1,6 @@
+use Rattle.cases.specs.Spans.{before, up_to, after}
+use borrow.Author.Rules.{rules}
+use Rattle.properties.proofs.names.word_code.Goals as goal
+
+pub returns : goal.returns
+returns c = unfold before up_to after in c.find.ensures

@@ -1,0 +1,6 @@
+use mathlib.Core.Path.{sym, ◌∙◌}
+use borrow.Author.Rules.{rules}
+use Rattle.properties.proofs.ranges.code_among.Goals as goal
+
+pub search-requires : goal.search-requires
+search-requires c = (c.pre.0, sym c.pre.1 ∙ c.if-sorted.true)

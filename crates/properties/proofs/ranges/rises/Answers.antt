@@ -1,0 +1,24 @@
+use Prim.Native.Nat.{◌≤◌, ◌-◌}
+use mathlib.Core.Path.{◌≡◌, refl}
+use mathlib.Core.Bool.{true}
+use native.Mathlib.Omega.{arith}
+use Rattle.basics.specs.Sets.{every}
+use Rattle.properties.specs.Inner.{cell_before, rises_at}
+use Rattle.properties.proofs.Orders.{rise_fails, rise_more, rise_over, before_next}
+use borrow.Author.Rules.{rules}
+use Rattle.properties.proofs.ranges.rises.Goals as goal
+
+pub loop-i-init : goal.loop-i-init
+loop-i-init c = unfold every in (search rules, (refl, refl))
+
+pub returns-then-cell-before : goal.returns-then-cell-before
+returns-then-cell-before c = rise_fails _ _ _ c.loop-i.invariant.1.1 _ c.loop-i-test.true c.if-cell-before.true
+
+pub loop-i-smaller : goal.loop-i-smaller
+loop-i-smaller c = search rules
+
+pub loop-i-preserved : goal.loop-i-preserved
+loop-i-preserved c = (search rules, (rise_more _ _ _ c.loop-i.invariant.1.1 c.loop-i.invariant.1.0 c.if-cell-before.false, before_next c.args.column.now c.loop-i.i))
+
+pub returns : goal.returns
+returns c = rise_over _ _ _ c.loop-i.invariant.1.0 (omega arith)

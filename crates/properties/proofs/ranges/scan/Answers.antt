@@ -1,0 +1,20 @@
+use Prim.Native.Nat.{◌≤◌, ◌-◌}
+use Rattle.properties.specs.Ranges.{ranges}
+use Rattle.properties.proofs.Hits.{Scanned, scan_all, scan_over, scan_hit, scan_pass}
+use borrow.Author.Rules.{rules}
+use Rattle.properties.proofs.ranges.scan.Goals as goal
+
+pub loop-i-init : goal.loop-i-init
+loop-i-init c = (search rules, scan_all _ _ _)
+
+pub returns-then-is_in : goal.returns-then-is_in
+returns-then-is_in c = scan_hit _ _ _ _ c.loop-i.invariant.1 _ c.is_in.ensures c.loop-i-test.true c.if-is_in.true
+
+pub loop-i-smaller : goal.loop-i-smaller
+loop-i-smaller c = search rules
+
+pub loop-i-preserved : goal.loop-i-preserved
+loop-i-preserved c = (search rules, scan_pass _ _ _ _ c.loop-i.invariant.1 _ c.is_in.ensures c.loop-i-test.true c.if-is_in.false)
+
+pub returns : goal.returns
+returns c = scan_over _ _ _ _ c.loop-i.invariant.1 c.loop-i-test.false

@@ -1,0 +1,28 @@
+use Prim.Native.Nat.{◌-◌}
+use mathlib.Core.Path.{◌≡◌, refl}
+use native.Mathlib.Omega.{arith}
+use lib.ListN.{length}
+use Rattle.properties.proofs.Turns.{Turn, turns_start, turn_refused, turn_goes, turns_end, next_is_lem}
+use borrow.Author.Rules.{rules}
+use Rattle.properties.proofs.verdicts.collect.Goals as goal
+
+pub loop-at-init : goal.loop-at-init
+loop-at-init c = (turns_start _ _ _ _ _ _ _ _ _, (refl, (refl, refl)))
+
+pub returns-in_default : goal.returns-in_default
+returns-in_default c = turn_refused _ _ _ _ _ _ _ _ _ _ _ _ c.loop-at.invariant.0 c.loop-at-test.true _ c.span_at.ensures _ c.ruling_of-ruling.ensures _ _ c.met_by-before.ensures c.met_by-earlier.ensures _ c.judge_ruling-v.ensures _ c.in_default.is c.requires.short
+
+pub note-n-requires : goal.note-n-requires
+note-n-requires c = (omega (arith, c.loop-at.invariant.0.bytes-before c.loop-at-test.true, c.requires.short, c.requires.beside.firsts-reach, c.loop-at.invariant.1.0), (omega (arith, c.loop-at.invariant.0.bytes-before c.loop-at-test.true, c.requires.short, c.requires.beside.lasts-reach, c.loop-at.invariant.1.1.0), omega (arith, c.loop-at.invariant.0.bytes-before c.loop-at-test.true, c.requires.short, c.requires.beside.codes-reach, c.loop-at.invariant.1.1.1)))
+
+pub overflow_add-k-in-loop-at : goal.overflow_add-k-in-loop-at
+overflow_add-k-in-loop-at c = omega (arith, c.loop-at.invariant.0.counted, c.loop-at.invariant.0.inside, c.requires.short)
+
+pub loop-at-smaller : goal.loop-at-smaller
+loop-at-smaller c = omega (arith, (next_is_lem _ _ c.loop-at-test.true _ _ c.span_at.ensures c.next_of-at.ensures).onward)
+
+pub loop-at-preserved : goal.loop-at-preserved
+loop-at-preserved c = (turn_goes _ _ _ _ _ _ _ _ _ _ _ _ c.loop-at.invariant.0 c.loop-at-test.true _ c.span_at.ensures _ c.ruling_of-ruling.ensures _ _ c.met_by-before.ensures c.met_by-earlier.ensures _ c.judge_ruling-v.ensures c.in-Accepted.is _ _ _ _ _ c.note-n.ensures c.next_of-at.ensures, search rules)
+
+pub returns : goal.returns
+returns c = turns_end _ _ _ _ _ _ _ _ _ _ _ _ c.loop-at.invariant.0 c.loop-at-test.false c.requires.short
