@@ -16,7 +16,7 @@ pub loop-n-preserved : goal.loop-n-preserved
 loop-n-preserved c = (search rules, end_more _ _ c.loop-n.invariant.1 _ c.is_blank.ensures c.loop-n-test.true c.if-is_blank.true)
 
 pub returns-else-is_blank : goal.returns-else-is_blank
-returns-else-is_blank c = (end_here _ _ c.loop-n.invariant.1 _ c.is_blank.ensures c.loop-n-test.true c.if-is_blank.false, search rules)
+returns-else-is_blank c = record { value = end_here _ _ c.loop-n.invariant.1 _ c.is_blank.ensures c.loop-n-test.true c.if-is_blank.false; upper_bound = search rules }
 
 pub returns : goal.returns
-returns c = (end_over _ _ c.loop-n.invariant.1 c.loop-n-test.false, search rules)
+returns c = record { value = end_over _ _ c.loop-n.invariant.1 c.loop-n-test.false; upper_bound = search rules }

@@ -16,7 +16,7 @@ pub loop-i-preserved : goal.loop-i-preserved
 loop-i-preserved c = (search rules, lead_more _ _ c.loop-i.invariant.1 _ c.is_blank.ensures c.loop-i-test.true c.if-is_blank.true)
 
 pub returns-else-is_blank : goal.returns-else-is_blank
-returns-else-is_blank c = (lead_here _ _ c.loop-i.invariant.1 _ c.is_blank.ensures c.loop-i-test.true c.if-is_blank.false, search rules)
+returns-else-is_blank c = record { value = lead_here _ _ c.loop-i.invariant.1 _ c.is_blank.ensures c.loop-i-test.true c.if-is_blank.false; upper_bound = search rules }
 
 pub returns : goal.returns
-returns c = (lead_over _ _ c.loop-i.invariant.1 c.loop-i-test.false, search rules)
+returns c = record { value = lead_over _ _ c.loop-i.invariant.1 c.loop-i-test.false; upper_bound = search rules }

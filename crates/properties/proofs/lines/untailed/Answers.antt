@@ -5,7 +5,7 @@ use borrow.Author.Rules.{rules}
 use Rattle.properties.proofs.lines.untailed.Goals as goal
 
 pub slice_bounds-result-end : goal.slice_bounds-result-end
-slice_bounds-result-end c = sym (length-take-le _ _ c.ending-n.ensures.1)
+slice_bounds-result-end c = sym (length-take-le _ _ c.ending-n.ensures.upper_bound)
 
 pub returns : goal.returns
-returns c = unfold untailed in rw c.ending-n.ensures.0
+returns c = unfold untailed in rw c.ending-n.ensures.value

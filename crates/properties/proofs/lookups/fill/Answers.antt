@@ -10,7 +10,7 @@ use borrow.Author.Rules.{rules}
 use Rattle.properties.proofs.lookups.fill.Goals as goal
 
 pub is_ordered-sorted-requires : goal.is_ordered-sorted-requires
-is_ordered-sorted-requires c = ((count_reach c.args.firsts.now c.args.lasts.now c.args.codes.now _ _ c.count-n.ensures).firsts-reach, (count_reach c.args.firsts.now c.args.lasts.now c.args.codes.now _ _ c.count-n.ensures).lasts-reach)
+is_ordered-sorted-requires c = ((count_reach c.args.firsts.now c.args.lasts.now c.args.codes.now _ _ c.count-n.ensures).firsts_reach, (count_reach c.args.firsts.now c.args.lasts.now c.args.codes.now _ _ c.count-n.ensures).lasts_reach)
 
 pub loop-i-init : goal.loop-i-init
 loop-i-init c = unfold cells in (search rules, (refl, refl))

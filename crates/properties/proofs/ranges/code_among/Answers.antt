@@ -3,4 +3,4 @@ use borrow.Author.Rules.{rules}
 use Rattle.properties.proofs.ranges.code_among.Goals as goal
 
 pub search-requires : goal.search-requires
-search-requires c = (c.pre.0, sym c.pre.1 ∙ c.if-sorted.true)
+search-requires c = (c.requires.0, sym c.requires.1 ∙ c.if-sorted.true)

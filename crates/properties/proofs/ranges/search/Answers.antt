@@ -4,7 +4,7 @@ use borrow.Author.Rules.{rules}
 use Rattle.properties.proofs.ranges.search.Goals as goal
 
 pub place-at-requires : goal.place-at-requires
-place-at-requires c = (c.pre.0.lasts-reach, lasts_rise _ _ _ c.pre.1)
+place-at-requires c = (c.requires.0.lasts_reach, lasts_rise _ _ _ c.requires.1)
 
 pub returns-then-n-at : goal.returns-then-n-at
 returns-then-n-at c = place_none _ _ _ _ _ _ c.place-at.ensures c.if-n-at.true
@@ -13,4 +13,4 @@ pub returns-then-firsts-at : goal.returns-then-firsts-at
 returns-then-firsts-at c = place_hit _ _ _ _ _ _ c.place-at.ensures c.if-n-at.false c.if-firsts-at.true
 
 pub returns : goal.returns
-returns c = place_gap _ _ _ _ _ _ c.place-at.ensures c.if-n-at.false c.pre.1 c.if-firsts-at.false
+returns c = place_gap _ _ _ _ _ _ c.place-at.ensures c.if-n-at.false c.requires.1 c.if-firsts-at.false

@@ -1,0 +1,13 @@
+use Prim.Native.Nat.{◌≤◌, ◌-◌}
+use mathlib.Core.Path.{◌≡◌}
+use native.Mathlib.Omega.{arith}
+use Rattle.spans.specs.Offsets.{offset_of}
+use Rattle.spans.proofs.Counting.{end_most, to_begins, to_turns, to_over}
+use borrow.Author.Rules.{rules}
+use Rattle.spans.proofs.offsets.Counted.to.Given as goal
+
+abbrev pub invariant-loop-i : goal.invariant-loop-i
+invariant-loop-i l = (l.i ≤ l.index) × (l.bytes ≡ offset_of l.scalars l.i)
+
+abbrev pub decreases-loop-i : goal.decreases-loop-i
+decreases-loop-i l = l.index - l.i
