@@ -14,7 +14,7 @@ pub returns-in_default : goal.returns-in_default
 returns-in_default c = lines_refused _ _ _ _ _ _ _ c.requires _ _ _ _ c.collect-collected.ensures _ c.in_default.is
 
 pub fill-requires : goal.fill-requires
-fill-requires c = (readable_reach _ _ _ _ _ _ c.requires _ c.collect-collected.ensures.fits, record { firsts_reach = omega (arith, c.collect-collected.ensures.few, c.collect-collected.auto.1.1.1.1.1.1.0, length-replicate {A = ℕ} 16384 0); lasts_reach = omega (arith, c.collect-collected.ensures.few, c.collect-collected.auto.1.1.1.1.1.1.1.0, length-replicate {A = ℕ} 16384 0); codes_reach = omega (arith, c.collect-collected.ensures.few, c.collect-collected.auto.1.1.1.1.1.1.1.1.0, length-replicate {A = ℕ} 16384 0) })
+fill-requires c = (readable_reach _ _ _ _ _ _ c.requires _ c.collect-collected.ensures.fits, record { firsts_reach = omega (arith, c.collect-collected.ensures.few, c.collect-collected.auto.new_firsts, length-replicate {A = ℕ} 16384 0); lasts_reach = omega (arith, c.collect-collected.ensures.few, c.collect-collected.auto.new_lasts, length-replicate {A = ℕ} 16384 0); codes_reach = omega (arith, c.collect-collected.ensures.few, c.collect-collected.auto.new_codes, length-replicate {A = ℕ} 16384 0) })
 
 pub overflow_add-result : goal.overflow_add-result
 overflow_add-result c = omega (arith, (readable_reach _ _ _ _ _ _ c.requires _ c.collect-collected.ensures.fits).firsts_reach, c.well_formed.1.1.0.0)

@@ -13,7 +13,7 @@ pub returns-in_default : goal.returns-in_default
 returns-in_default c = turn_refused _ _ _ _ _ _ _ _ _ _ _ _ c.loop-at.invariant.0 c.loop-at-test.true _ c.span_at.ensures _ c.ruling_of-ruling.ensures _ _ c.met_by-before.ensures c.met_by-earlier.ensures _ c.judge_ruling-v.ensures _ c.in_default.is c.requires.short
 
 pub note-n-requires : goal.note-n-requires
-note-n-requires c = (omega (arith, c.loop-at.invariant.0.bytes_before c.loop-at-test.true, c.requires.short, c.requires.beside.firsts_reach, c.loop-at.invariant.1.0), (omega (arith, c.loop-at.invariant.0.bytes_before c.loop-at-test.true, c.requires.short, c.requires.beside.lasts_reach, c.loop-at.invariant.1.1.0), omega (arith, c.loop-at.invariant.0.bytes_before c.loop-at-test.true, c.requires.short, c.requires.beside.codes_reach, c.loop-at.invariant.1.1.1)))
+note-n-requires c = (omega (arith, c.loop-at.invariant.0.bytes_before_lem c.loop-at-test.true, c.requires.short, c.requires.beside.firsts_reach, c.loop-at.invariant.1.0), (omega (arith, c.loop-at.invariant.0.bytes_before_lem c.loop-at-test.true, c.requires.short, c.requires.beside.lasts_reach, c.loop-at.invariant.1.1.0), omega (arith, c.loop-at.invariant.0.bytes_before_lem c.loop-at-test.true, c.requires.short, c.requires.beside.codes_reach, c.loop-at.invariant.1.1.1)))
 
 pub overflow_add-k-in-loop-at : goal.overflow_add-k-in-loop-at
 overflow_add-k-in-loop-at c = omega (arith, c.loop-at.invariant.0.counted, c.loop-at.invariant.0.inside, c.requires.short)
