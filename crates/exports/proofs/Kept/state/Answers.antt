@@ -1,0 +1,5 @@
+use borrow.Author.Rules.{rules}
+use Rattle.exports.proofs.Kept.state.Goals as goal
+
+pub returns : goal.returns
+returns c = simp c.code.ensures

@@ -1,0 +1,6 @@
+use mathlib.Core.Path.{◌∙◌}
+use borrow.Author.Rules.{rules}
+use Rattle.exports.proofs.Kept.step.Goals as goal
+
+pub returns : goal.returns
+returns c = c.step.ensures ∙ simp (c.code-2.ensures, c.code.ensures, c.state-state.ensures)

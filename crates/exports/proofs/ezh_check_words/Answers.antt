@@ -1,0 +1,10 @@
+use Rattle.exports.specs.Words.{check_words_verdict}
+use Rattle.exports.proofs.Refusals.{three_tight, three_told}
+use borrow.Author.Rules.{rules}
+use Rattle.exports.proofs.ezh_check_words.Goals as goal
+
+pub returns-then-results-lt-CHECK_ROOM : goal.returns-then-results-lt-CHECK_ROOM
+returns-then-results-lt-CHECK_ROOM c = unfold check_words_verdict in three_tight _ _ c.if-results-lt-CHECK_ROOM.true
+
+pub returns : goal.returns
+returns c = unfold check_words_verdict in three_told _ _ _ _ _ c.if-results-lt-CHECK_ROOM.false c.check_words.ensures c.tell.ensures

@@ -1,0 +1,10 @@
+use Rattle.exports.proofs.PropertyLaws.{lookup_tight, lookup_told}
+use Rattle.properties.specs.Ranges.{ranges}
+use borrow.Author.Rules.{rules}
+use Rattle.exports.proofs.ezh_lookup.Goals as goal
+
+pub returns-then-results-lt-CHECK_ROOM : goal.returns-then-results-lt-CHECK_ROOM
+returns-then-results-lt-CHECK_ROOM c = lookup_tight _ (ranges _ _ _ _) (ranges _ _ _ _) _ _ _ c.if-results-lt-CHECK_ROOM.true
+
+pub returns : goal.returns
+returns c = lookup_told _ (ranges _ _ _ _) (ranges _ _ _ _) _ _ _ _ _ _ _ _ c.if-results-lt-CHECK_ROOM.false c.lookup-verdict.ensures.value c.lookup-verdict.ensures.breaks_after c.lookup-verdict.ensures.words_after c.tell.ensures

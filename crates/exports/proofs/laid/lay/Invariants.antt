@@ -1,0 +1,15 @@
+use Rattle.exports.proofs.StepLaws.{laid_more, laid_all}
+use Rattle.exports.specs.Steps.{scalar_of, class_of, record_of, noted_of}
+use Rattle.segment.proofs.Written.{Cells}
+use lib.ListN.{length}
+use native.Mathlib.Omega.{arith}
+use Prim.Native.Nat.{◌≤◌, ◌<◌, ◌-◌}
+use mathlib.Core.Path.{refl}
+use borrow.Author.Rules.{rules}
+use Rattle.exports.proofs.laid.lay.Given as goal
+
+abbrev pub invariant-loop-j : goal.invariant-loop-j
+invariant-loop-j l = (l.j ≤ l.len) × (Cells scalar_of 0 l.chars l.initial.cscalars l.cscalars l.j × (Cells class_of 0 l.chars l.initial.cclasses l.cclasses l.j × (Cells record_of 0 l.chars l.initial.crecords l.crecords l.j × Cells noted_of 0 l.chars l.initial.cnoted l.cnoted l.j)))
+
+abbrev pub decreases-loop-j : goal.decreases-loop-j
+decreases-loop-j l = l.len - l.j

@@ -1,0 +1,12 @@
+use Rattle.exports.proofs.StateLaws.{judged_by, step_told}
+use Rattle.exports.specs.Lines.{next_judged}
+use borrow.Author.Rules.{rules}
+use Rattle.exports.proofs.linesteps.tell_next.Goals as goal
+
+pub returns-in_default : goal.returns-in_default
+unfolding next_judged
+returns-in_default c = step_told _ _ _ _ _ _ _ _ _ _ (judged_by _ _ _ _ c.judge-verdict.ensures c.is_bad_next.ensures) (rw c.in_default.is) c.numbered-n.ensures c.put.ensures
+
+pub returns : goal.returns
+unfolding next_judged
+returns c = step_told _ _ _ _ _ _ _ _ _ _ (judged_by _ _ _ _ c.judge-verdict.ensures c.is_bad_next.ensures) (rw (c.in-Accepted.is, c.mark.ensures, c.mark-2.ensures, c.code.ensures)) c.numbered-n.ensures c.put-2.ensures

@@ -1,0 +1,7 @@
+use Rattle.exports.proofs.Refusals.{told_by}
+use mathlib.Core.Path.{refl}
+use borrow.Author.Rules.{rules}
+use Rattle.exports.proofs.results.tell_run.Goals as goal
+
+pub returns : goal.returns
+returns c = told_by _ _ _ _ _ _ _ _ refl c.numbered-n.ensures c.put.ensures

@@ -1,0 +1,12 @@
+use Rattle.exports.proofs.StateLaws.{judged_by, step_told}
+use Rattle.exports.specs.Words.{word_judged}
+use borrow.Author.Rules.{rules}
+use Rattle.exports.proofs.wordsteps.tell_word.Goals as goal
+
+pub returns-in_default : goal.returns-in_default
+unfolding word_judged
+returns-in_default c = step_told _ _ _ _ _ _ _ _ _ _ (judged_by _ _ _ _ c.judge-verdict.ensures c.is_bad.ensures) (rw c.in_default.is) c.numbered-n.ensures c.put.ensures
+
+pub returns : goal.returns
+unfolding word_judged
+returns c = step_told _ _ _ _ _ _ _ _ _ _ (judged_by _ _ _ _ c.judge-verdict.ensures c.is_bad.ensures) (rw (c.in-Accepted.is, c.mark.ensures, c.mark-2.ensures)) c.numbered-n.ensures c.put-2.ensures
