@@ -1,6 +1,6 @@
 -- Crate mode and whole mode do the same, as long as the cluster is not full and no token is read again; also where a call ends at the
 -- end of the text. Assumes nothing.
-use Prim.Native.Nat.{ℕ, zero, suc, ◌+◌}
+use Prim.Native.Nat.{ℕ, zero, suc}
 use mathlib.Core.Path.{◌≡◌, refl, sym, ◌∙◌, ap}
 use mathlib.Core.Bool.{Bool, true, false, cond, false≢true}
 use mathlib.Core.List.{List}

@@ -18,13 +18,13 @@ use Rattle.parse.specs.declared.Parse.{Parse}
 use Rattle.parse.specs.declared.Space.TheVariants.{Newline}
 use Rattle.parse.specs.declared.Flow.TheVariants.{Stop, Full}
 use Rattle.parse.specs.State.{token_at, filled_at, last_room, going, with_place, with_flow, with_info, put_of, step_of, push_of}
-use Rattle.parse.specs.Rule.{Test, Rule, stop, seq, choose, while, run, crowded, holds, take, accept_as, many_as, is, next_is, is_emoji, set_space}
+use Rattle.parse.specs.Rule.{Test, Rule, seq, choose, while, run, crowded, holds, take, accept_as, many_as, is, next_is, is_emoji, set_space}
 use Rattle.parse.specs.Shared.{newline, newline_with}
 use Rattle.parse.proofs.Keeps.{run_mode}
 use Rattle.parse.proofs.Moves.{step_stays}
 use Rattle.parse.proofs.Steps.{plus, put_plus, moved_full}
 use Rattle.parse.proofs.Runs.{run_still, run_stays, run_seq, run_then, run_else, run_crowded, run_roomy, holds_going}
-use Rattle.simple.specs.Grammar.{cluster, start, control, syllable, is_extension, extension}
+use Rattle.simple.specs.Grammar.{cluster, start, control, is_extension, extension}
 use Rattle.simple.specs.Before.{cluster_before, start_before, control_before}
 
 -- behind the prepended characters stands a CR without the emoji mark, then an LF, and "31 characters are already pushed", in whole mode

@@ -5,11 +5,10 @@ use mathlib.Core.Bool.{Bool, true, false, cond, false≢true}
 use mathlib.Core.List.{List, [], ◌∷◌}
 use native.Mathlib.Omega.{arith}
 use lib.Dec.{eqb, ltb}
-use lib.ListN.{length, get_or, get_or-eq_default}
-use borrow.Author.Tests.{eqb-true, eqb-false, ltb-true, ltb-false, lt-ltb}
+use lib.ListN.{length, get_or-eq_default}
+use borrow.Author.Tests.{eqb-true, eqb-false, ltb-true, ltb-false}
 use Rattle.basics.specs.Sets.{member}
 use Rattle.basics.proofs.Tests.{if_intro, by_test, both_of}
-use Rattle.classes.specs.declared.Mode.{Mode}
 use Rattle.classes.specs.declared.Mode.TheVariants.{Whole}
 use Rattle.classes.specs.declared.Shape.{Shape}
 use Rattle.classes.specs.declared.Shape.TheVariants.{Base, Control}
@@ -21,8 +20,8 @@ use Rattle.parse.specs.declared.Info.{Info}
 use Rattle.parse.specs.declared.Space.TheVariants.{Newline}
 use Rattle.parse.specs.declared.Flow.{Flow}
 use Rattle.parse.specs.declared.Flow.TheVariants.{GoOn, Stop, Full, End}
-use Rattle.parse.specs.State.{token_at, filled_at, last_room, begin, place_of, is_going, going, go_on, with_place, with_flow, with_info, put_of, noted_of, moved_of, step_of, push_of, note_of, resumed_of, passes_end, retried_of}
-use Rattle.parse.specs.Rule.{Test, Rule, skip, stop, push, note, mark, seq, choose, while, scope, thrice, fit, run, crowded, holds, take, accept_as, many_as, is, next_is, is_break, is_emoji, one_of, set_space}
+use Rattle.parse.specs.State.{token_at, filled_at, last_room, begin, place_of, is_going, going, go_on, with_place, with_flow, with_info, put_of, noted_of, moved_of, step_of, push_of, note_of, passes_end}
+use Rattle.parse.specs.Rule.{Rule, skip, stop, push, note, mark, seq, choose, while, scope, thrice, fit, run, crowded, holds, take, accept_as, many_as, is, next_is, is_break, is_emoji, one_of, set_space}
 use Rattle.parse.specs.Shared.{emojis, emoji_turn, emoji_extension, emoji_mark, newline, newline_with}
 use Rattle.parse.proofs.Loop.{loop_keeps}
 use Rattle.parse.proofs.Moves.{put_same, noted_same, moved_case, step_stays}

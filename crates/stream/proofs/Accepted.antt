@@ -1,6 +1,6 @@
 -- The stream of an accepted text: how long it can be, that the count is its length, and that its tokens say what the lent cells say.
 -- Assumes nothing.
-use Prim.Native.Nat.{ℕ, zero, suc, ◌+◌, ◌-◌, ◌*◌, ◌<◌, ◌≤◌, min}
+use Prim.Native.Nat.{ℕ, zero, suc, ◌+◌, ◌*◌, ◌<◌, ◌≤◌, min}
 use mathlib.Core.Path.{◌≡◌, refl, sym}
 use mathlib.Core.Bool.{Bool, true, false, cond, ◌&&◌, ◌||◌}
 use mathlib.Core.List.{List, ◌∷◌}
@@ -11,7 +11,6 @@ use borrow.Author.Tests.{ltb-false}
 use Rattle.basics.specs.Sets.{any, member}
 use Rattle.classes.specs.Scalar.{khmer_signs}
 use Rattle.classes.specs.declared.Mode.{Mode}
-use Rattle.token.specs.Token.{packed}
 use Rattle.token.proofs.Fields.{Says, packed_says}
 use Rattle.records.specs.Text.{Parts, Text, cell, record_lengths}
 use Rattle.records.specs.Refusals.{bad_scalar, most}

@@ -1,7 +1,6 @@
 use Rattle.complex.specs.Grammar.{by_kind}
 use mathlib.Core.Path.{◌∙◌}
 use Rattle.parse.proofs.Rules.{by_class}
-use borrow.Author.Rules.{rules}
 use Rattle.complex.proofs.accept_by_kind.Goals as goal
 
 pub returns : goal.returns

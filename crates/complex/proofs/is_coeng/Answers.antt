@@ -1,6 +1,5 @@
 use Rattle.complex.specs.Grammar.{is_coeng}
 use Rattle.complex.proofs.Given.{given_set, given_unset}
-use borrow.Author.Rules.{rules}
 use Rattle.complex.proofs.is_coeng.Goals as goal
 
 pub returns-then-khmer : goal.returns-then-khmer

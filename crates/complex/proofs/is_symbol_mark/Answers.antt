@@ -1,6 +1,5 @@
 use Rattle.complex.specs.Grammar.{is_symbol_mark}
 use Rattle.complex.proofs.Given.{given_set, given_unset}
-use borrow.Author.Rules.{rules}
 use Rattle.complex.proofs.is_symbol_mark.Goals as goal
 
 pub returns-then-symbol : goal.returns-then-symbol

@@ -1,6 +1,5 @@
 use Rattle.complex.specs.Grammar.{is_vowel_modifier}
 use Rattle.parse.proofs.Rules.{tests}
-use borrow.Author.Rules.{rules}
 use Rattle.complex.proofs.is_vowel_modifier.Goals as goal
 
 pub returns-then-kind_is : goal.returns-then-kind_is

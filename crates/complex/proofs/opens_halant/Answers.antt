@@ -1,5 +1,4 @@
 use Rattle.complex.specs.Grammar.{opens_halant}
-use borrow.Author.Rules.{rules}
 use Rattle.complex.proofs.opens_halant.Goals as goal
 
 pub returns : goal.returns

@@ -1,6 +1,5 @@
 use Rattle.complex.specs.Grammar.{cluster}
 use Rattle.parse.proofs.Rules.{arms}
-use borrow.Author.Rules.{rules}
 use Rattle.complex.proofs.parse.Goals as goal
 
 pub returns-then-emoji : goal.returns-then-emoji

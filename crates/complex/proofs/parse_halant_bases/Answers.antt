@@ -1,9 +1,6 @@
-use Rattle.complex.specs.Grammar.{halant, halant_base, opens_halant}
-use Rattle.parse.specs.Rule.{run, while}
+use Rattle.complex.specs.Grammar.{halant, halant_base}
 use Rattle.parse.proofs.Rules.{loop_turns, loop_leaves, falls}
-use Rattle.parse.specs.State.{turns}
-use mathlib.Core.Path.{◌≡◌, refl}
-use borrow.Author.Rules.{rules}
+use mathlib.Core.Path.{refl}
 use Rattle.complex.proofs.parse_halant_bases.Goals as goal
 
 pub loop-s-init : goal.loop-s-init

@@ -1,9 +1,7 @@
-use Rattle.complex.specs.Grammar.{halant, halant_base, opens_halant}
+use Rattle.complex.specs.Grammar.{halant_base, opens_halant}
 use Rattle.parse.specs.Rule.{run, while}
-use Rattle.parse.proofs.Rules.{loop_turns, loop_leaves, falls}
 use Rattle.parse.specs.State.{turns}
-use mathlib.Core.Path.{◌≡◌, refl}
-use borrow.Author.Rules.{rules}
+use mathlib.Core.Path.{◌≡◌}
 use Rattle.complex.proofs.parse_halant_bases.Given as goal
 
 -- `complex::parse_halant_bases` meets its contract. Assumes nothing.

@@ -1,10 +1,6 @@
 use Rattle.complex.specs.Grammar.{halant_number}
-use Rattle.parse.specs.Rule.{run, while, is}
 use Rattle.parse.proofs.Rules.{loop_turns, loop_leaves, falls}
-use Rattle.parse.specs.State.{turns}
-use mathlib.Core.Path.{◌≡◌, refl}
-use Rattle.classes.specs.UseClass.{HN}
-use borrow.Author.Rules.{rules}
+use mathlib.Core.Path.{refl}
 use Rattle.complex.proofs.parse_halant_numbers.Goals as goal
 
 pub loop-s-init : goal.loop-s-init

@@ -1,10 +1,8 @@
 use Rattle.complex.specs.Grammar.{halant_number}
 use Rattle.parse.specs.Rule.{run, while, is}
-use Rattle.parse.proofs.Rules.{loop_turns, loop_leaves, falls}
 use Rattle.parse.specs.State.{turns}
-use mathlib.Core.Path.{◌≡◌, refl}
+use mathlib.Core.Path.{◌≡◌}
 use Rattle.classes.specs.UseClass.{HN}
-use borrow.Author.Rules.{rules}
 use Rattle.complex.proofs.parse_halant_numbers.Given as goal
 
 -- `complex::parse_halant_numbers` meets its contract. Assumes nothing.

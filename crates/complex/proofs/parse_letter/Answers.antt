@@ -1,6 +1,5 @@
 use Rattle.complex.specs.Grammar.{letter, number, symbol}
 use Rattle.parse.proofs.Rules.{arms}
-use borrow.Author.Rules.{rules}
 use Rattle.complex.proofs.parse_letter.Goals as goal
 
 pub returns-then-kind_is : goal.returns-then-kind_is

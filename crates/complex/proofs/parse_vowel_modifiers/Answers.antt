@@ -1,9 +1,6 @@
-use Rattle.complex.specs.Grammar.{is_vowel_modifier, vowel_modifier}
-use Rattle.parse.specs.Rule.{run, while}
+use Rattle.complex.specs.Grammar.{vowel_modifier}
 use Rattle.parse.proofs.Rules.{loop_turns, loop_leaves, falls}
-use Rattle.parse.specs.State.{turns}
-use mathlib.Core.Path.{◌≡◌, refl}
-use borrow.Author.Rules.{rules}
+use mathlib.Core.Path.{refl}
 use Rattle.complex.proofs.parse_vowel_modifiers.Goals as goal
 
 pub loop-s-init : goal.loop-s-init

@@ -1,9 +1,7 @@
 use Rattle.complex.specs.Grammar.{is_vowel_modifier, vowel_modifier}
 use Rattle.parse.specs.Rule.{run, while}
-use Rattle.parse.proofs.Rules.{loop_turns, loop_leaves, falls}
 use Rattle.parse.specs.State.{turns}
-use mathlib.Core.Path.{◌≡◌, refl}
-use borrow.Author.Rules.{rules}
+use mathlib.Core.Path.{◌≡◌}
 use Rattle.complex.proofs.parse_vowel_modifiers.Given as goal
 
 -- `complex::parse_vowel_modifiers` meets its contract. Assumes nothing.

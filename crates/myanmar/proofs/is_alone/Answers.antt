@@ -1,6 +1,5 @@
 use Rattle.myanmar.specs.Grammar.{is_alone}
 use Rattle.parse.proofs.Rules.{tests}
-use borrow.Author.Rules.{rules}
 use Rattle.myanmar.proofs.is_alone.Goals as goal
 
 pub returns : goal.returns

@@ -1,4 +1,3 @@
-use borrow.Author.Rules.{rules}
 use Rattle.myanmar.proofs.is_kinzi.Goals as goal
 
 pub returns-then-going : goal.returns-then-going

@@ -1,6 +1,5 @@
 use Rattle.myanmar.specs.Grammar.{is_kinzi}
 use borrow.Author.Tests.{eq-eqb, ne_eqb}
-use borrow.Author.Rules.{rules}
 use Rattle.myanmar.proofs.kinzi_at.Goals as goal
 
 pub returns-then-scalar_on-eq-ASAT : goal.returns-then-scalar_on-eq-ASAT

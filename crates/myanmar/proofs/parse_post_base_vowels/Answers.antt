@@ -1,10 +1,6 @@
-use mathlib.Core.Path.{◌≡◌, refl}
-use Rattle.classes.specs.MyanmarClass.{VPst}
-use Rattle.parse.specs.State.{turns}
-use Rattle.parse.specs.Rule.{run, while, is}
+use mathlib.Core.Path.{refl}
 use Rattle.myanmar.specs.Grammar.{post_base_vowel}
 use Rattle.parse.proofs.Rules.{loop_turns, loop_leaves, falls}
-use borrow.Author.Rules.{rules}
 use Rattle.myanmar.proofs.parse_post_base_vowels.Goals as goal
 
 pub loop-s-init : goal.loop-s-init

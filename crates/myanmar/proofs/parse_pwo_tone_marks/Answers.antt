@@ -1,10 +1,6 @@
-use mathlib.Core.Path.{◌≡◌, refl}
-use Rattle.classes.specs.MyanmarClass.{PT}
-use Rattle.parse.specs.State.{turns}
-use Rattle.parse.specs.Rule.{run, while, is}
+use mathlib.Core.Path.{refl}
 use Rattle.myanmar.specs.Grammar.{pwo_tone_mark}
 use Rattle.parse.proofs.Rules.{loop_turns, loop_leaves, falls}
-use borrow.Author.Rules.{rules}
 use Rattle.myanmar.proofs.parse_pwo_tone_marks.Goals as goal
 
 pub loop-s-init : goal.loop-s-init

@@ -1,10 +1,8 @@
-use mathlib.Core.Path.{◌≡◌, refl}
+use mathlib.Core.Path.{◌≡◌}
 use Rattle.classes.specs.MyanmarClass.{H}
 use Rattle.parse.specs.State.{turns}
 use Rattle.parse.specs.Rule.{run, while, is}
 use Rattle.myanmar.specs.Grammar.{stacked}
-use Rattle.parse.proofs.Rules.{loop_turns, loop_leaves, falls}
-use borrow.Author.Rules.{rules}
 use Rattle.myanmar.proofs.parse_stacked.Given as goal
 
 -- `myanmar::parse_stacked` meets its contract. Assumes nothing.

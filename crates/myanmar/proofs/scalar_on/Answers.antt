@@ -1,7 +1,6 @@
 use Prim.Native.Nat.{◌+◌, ◌≤◌}
 use native.Mathlib.Omega.{arith}
 use lib.ListN.{length, get_or-eq_default}
-use borrow.Author.Rules.{rules}
 use Rattle.myanmar.proofs.scalar_on.Goals as goal
 
 pub returns-else-k-text : goal.returns-else-k-text

@@ -1,5 +1,4 @@
 use Rattle.simple.specs.Grammar.{is_extension}
-use borrow.Author.Rules.{rules}
 use Rattle.simple.proofs.is_extension.Goals as goal
 
 pub returns : goal.returns

@@ -1,9 +1,6 @@
-use mathlib.Core.Path.{◌≡◌, refl}
-use Rattle.parse.specs.State.{turns}
-use Rattle.parse.specs.Rule.{run, while}
+use mathlib.Core.Path.{refl}
 use Rattle.parse.proofs.Rules.{loop_turns, loop_leaves, falls}
-use Rattle.simple.specs.Grammar.{is_extension, extension, extend, combining}
-use borrow.Author.Rules.{rules}
+use Rattle.simple.specs.Grammar.{extension, extend, combining}
 use Rattle.simple.proofs.parse_extensions.Goals as goal
 
 pub loop-s-init : goal.loop-s-init

@@ -1,9 +1,7 @@
-use mathlib.Core.Path.{◌≡◌, refl}
+use mathlib.Core.Path.{◌≡◌}
 use Rattle.parse.specs.State.{turns}
 use Rattle.parse.specs.Rule.{run, while}
-use Rattle.parse.proofs.Rules.{loop_turns, loop_leaves, falls}
-use Rattle.simple.specs.Grammar.{is_extension, extension, extend, combining}
-use borrow.Author.Rules.{rules}
+use Rattle.simple.specs.Grammar.{is_extension, extension}
 use Rattle.simple.proofs.parse_extensions.Given as goal
 
 -- `simple::parse_extensions` meets its contract. Assumes nothing.

@@ -1,10 +1,6 @@
 use Rattle.records.specs.Text.{text_in}
-use Rattle.stream.specs.Stream.{source_of, splits_of}
-use Rattle.stream.proofs.Stream.{Collecting, collect_starts, collect_whole, collect_part, collect_last, collect_full, collect_over, split_whole}
-use lib.ListN.{length}
-use Prim.Native.Nat.{◌-◌}
+use Rattle.stream.proofs.Stream.{collect_starts, collect_whole, collect_part, collect_last, collect_full, collect_over, split_whole}
 use native.Mathlib.Omega.{arith}
-use borrow.Author.Rules.{rules}
 use Rattle.stream.proofs.collect.Goals as goal
 
 pub loop-i-init : goal.loop-i-init

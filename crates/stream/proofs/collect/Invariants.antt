@@ -1,10 +1,8 @@
 use Rattle.records.specs.Text.{text_in}
 use Rattle.stream.specs.Stream.{source_of, splits_of}
-use Rattle.stream.proofs.Stream.{Collecting, collect_starts, collect_whole, collect_part, collect_last, collect_full, collect_over, split_whole}
+use Rattle.stream.proofs.Stream.{Collecting}
 use lib.ListN.{length}
 use Prim.Native.Nat.{◌-◌}
-use native.Mathlib.Omega.{arith}
-use borrow.Author.Rules.{rules}
 use Rattle.stream.proofs.collect.Given as goal
 
 abbrev pub invariant-loop-i : goal.invariant-loop-i

@@ -1,11 +1,10 @@
-use Rattle.records.specs.Text.{text_in}
 use Rattle.records.specs.Refusals.{most}
 use Rattle.stream.specs.Stream.{count_from}
 use Rattle.stream.proofs.Stream.{count_more, count_all}
 use native.Mathlib.Nat.{sub-zero, zero-add}
 use native.Mathlib.Omega.{arith}
-use mathlib.Core.Path.{◌≡◌, ◌∙◌, ap}
-use Prim.Native.Nat.{◌+◌, ◌-◌, ◌*◌, ◌≤◌, min}
+use mathlib.Core.Path.{◌∙◌, ap}
+use Prim.Native.Nat.{min}
 use borrow.Author.Rules.{rules}
 use Rattle.stream.proofs.count.Goals as goal
 

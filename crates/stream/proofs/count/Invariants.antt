@@ -1,12 +1,7 @@
 use Rattle.records.specs.Text.{text_in}
-use Rattle.records.specs.Refusals.{most}
 use Rattle.stream.specs.Stream.{count_from}
-use Rattle.stream.proofs.Stream.{count_more, count_all}
-use native.Mathlib.Nat.{sub-zero, zero-add}
-use native.Mathlib.Omega.{arith}
-use mathlib.Core.Path.{◌≡◌, ◌∙◌, ap}
-use Prim.Native.Nat.{◌+◌, ◌-◌, ◌*◌, ◌≤◌, min}
-use borrow.Author.Rules.{rules}
+use mathlib.Core.Path.{◌≡◌}
+use Prim.Native.Nat.{◌+◌, ◌-◌, ◌*◌, ◌≤◌}
 use Rattle.stream.proofs.count.Given as goal
 
 abbrev pub invariant-loop-i : goal.invariant-loop-i

@@ -1,11 +1,6 @@
-use Rattle.stream.specs.Inner.{rest}
-use Rattle.records.specs.Text.{text_in}
-use Rattle.stream.specs.Stream.{source_of, itself, gather}
-use Rattle.stream.proofs.Stream.{Kept, kept_all, kept_more, kept_is, rest_all, fill_full, fill_over, fill_more}
-use lib.ListN.{length, take, length-set}
-use Prim.Native.Nat.{◌-◌, ◌≤◌}
-use mathlib.Core.Path.{◌≡◌, refl, sym, ◌∙◌}
-use mathlib.Core.List.{◌++◌}
+use Rattle.stream.proofs.Stream.{kept_all, kept_more, kept_is, rest_all, fill_full, fill_over, fill_more}
+use lib.ListN.{length-set}
+use mathlib.Core.Path.{refl, sym, ◌∙◌}
 use native.Mathlib.Omega.{arith}
 use borrow.Author.Rules.{rules}
 use Rattle.stream.proofs.fill.Goals as goal

@@ -1,13 +1,11 @@
 use Rattle.stream.specs.Inner.{rest}
 use Rattle.records.specs.Text.{text_in}
 use Rattle.stream.specs.Stream.{source_of, itself, gather}
-use Rattle.stream.proofs.Stream.{Kept, kept_all, kept_more, kept_is, rest_all, fill_full, fill_over, fill_more}
-use lib.ListN.{length, take, length-set}
+use Rattle.stream.proofs.Stream.{Kept}
+use lib.ListN.{length, take}
 use Prim.Native.Nat.{◌-◌, ◌≤◌}
-use mathlib.Core.Path.{◌≡◌, refl, sym, ◌∙◌}
+use mathlib.Core.Path.{◌≡◌}
 use mathlib.Core.List.{◌++◌}
-use native.Mathlib.Omega.{arith}
-use borrow.Author.Rules.{rules}
 use Rattle.stream.proofs.fill.Given as goal
 
 abbrev pub invariant-loop-i : goal.invariant-loop-i

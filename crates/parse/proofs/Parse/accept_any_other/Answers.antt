@@ -1,6 +1,5 @@
 use Rattle.parse.proofs.Rules.{by_class}
 use mathlib.Core.Path.{◌∙◌}
-use borrow.Author.Rules.{rules}
 use Rattle.parse.proofs.Parse.accept_any_other.Goals as goal
 
 pub returns : goal.returns

@@ -1,8 +1,6 @@
 use Rattle.parse.specs.Rule.{run, many_as}
-use Rattle.parse.proofs.Rules.{loop_turns, loop_leaves, falls}
 use Rattle.parse.specs.State.{turns}
-use mathlib.Core.Path.{◌≡◌, refl}
-use borrow.Author.Rules.{rules}
+use mathlib.Core.Path.{◌≡◌}
 use Rattle.parse.proofs.Parse.accept_zero_or_many_as.Given as goal
 
 -- `parse::Parse::accept_zero_or_many_as` meets its contract. Assumes nothing.

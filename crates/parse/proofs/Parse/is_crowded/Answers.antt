@@ -1,4 +1,3 @@
-use borrow.Author.Rules.{rules}
 use Rattle.parse.proofs.Parse.is_crowded.Goals as goal
 
 pub returns-then-last_room : goal.returns-then-last_room

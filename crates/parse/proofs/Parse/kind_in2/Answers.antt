@@ -1,5 +1,4 @@
 use Rattle.parse.proofs.Rules.{tests}
-use borrow.Author.Rules.{rules}
 use Rattle.parse.proofs.Parse.kind_in2.Goals as goal
 
 pub returns-then-kind_is : goal.returns-then-kind_is

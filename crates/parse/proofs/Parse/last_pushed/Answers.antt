@@ -1,6 +1,5 @@
 use mathlib.Core.Path.{◌∙◌}
 use borrow.Author.Tests.{lt-ltb, le-ltb}
-use borrow.Author.Rules.{rules}
 use Rattle.parse.proofs.Parse.last_pushed.Goals as goal
 
 pub returns-then-len-lt32 : goal.returns-then-len-lt32

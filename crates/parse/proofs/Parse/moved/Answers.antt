@@ -1,6 +1,5 @@
 use borrow.Author.Tests.{lt-ltb, le-ltb}
 use mathlib.Core.Path.{◌∙◌}
-use borrow.Author.Rules.{rules}
 use Rattle.parse.proofs.Parse.moved.Goals as goal
 
 pub returns-then-self-ge32 : goal.returns-then-self-ge32

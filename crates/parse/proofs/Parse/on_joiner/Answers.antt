@@ -1,4 +1,3 @@
-use borrow.Author.Rules.{rules}
 use Rattle.parse.proofs.Parse.on_joiner.Goals as goal
 
 pub returns-then-self : goal.returns-then-self

@@ -1,7 +1,6 @@
-use mathlib.Core.Path.{◌≡◌, refl}
-use Rattle.parse.specs.Rule.{run, while, is_emoji}
+use mathlib.Core.Path.{refl}
+use Rattle.parse.specs.Rule.{is_emoji}
 use Rattle.parse.specs.Shared.{emojis, emoji_turn}
-use Rattle.parse.specs.State.{turns}
 use Rattle.parse.proofs.Rules.{rules, by_seq, loop_turns, loop_scope, falls}
 use Rattle.parse.proofs.Parse.parse_emoji.Goals as goal
 

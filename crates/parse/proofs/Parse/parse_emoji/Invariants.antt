@@ -1,8 +1,7 @@
-use mathlib.Core.Path.{◌≡◌, refl}
+use mathlib.Core.Path.{◌≡◌}
 use Rattle.parse.specs.Rule.{run, while, is_emoji}
-use Rattle.parse.specs.Shared.{emojis, emoji_turn}
+use Rattle.parse.specs.Shared.{emoji_turn}
 use Rattle.parse.specs.State.{turns}
-use Rattle.parse.proofs.Rules.{rules, by_seq, loop_turns, loop_scope, falls}
 use Rattle.parse.proofs.Parse.parse_emoji.Given as goal
 
 -- `parse::Parse::parse_emoji` meets its contract. Assumes nothing.

@@ -1,10 +1,6 @@
-use Rattle.classes.specs.ClusterBreak.{EX}
 use Rattle.parse.specs.Shared.{emoji_mark, emoji_extension}
-use Rattle.parse.specs.Rule.{run, while, is_break}
 use Rattle.parse.proofs.Rules.{by_then, by_else, loop_turns, loop_then, falls}
-use Rattle.parse.specs.State.{turns}
-use mathlib.Core.Path.{◌≡◌, refl}
-use borrow.Author.Rules.{rules}
+use mathlib.Core.Path.{refl}
 use Rattle.parse.proofs.Parse.parse_emoji_extension.Goals as goal
 
 pub loop-s-init : goal.loop-s-init

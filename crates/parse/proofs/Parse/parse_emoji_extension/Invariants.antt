@@ -1,10 +1,8 @@
 use Rattle.classes.specs.ClusterBreak.{EX}
-use Rattle.parse.specs.Shared.{emoji_mark, emoji_extension}
+use Rattle.parse.specs.Shared.{emoji_mark}
 use Rattle.parse.specs.Rule.{run, while, is_break}
-use Rattle.parse.proofs.Rules.{by_then, by_else, loop_turns, loop_then, falls}
 use Rattle.parse.specs.State.{turns}
-use mathlib.Core.Path.{◌≡◌, refl}
-use borrow.Author.Rules.{rules}
+use mathlib.Core.Path.{◌≡◌}
 use Rattle.parse.proofs.Parse.parse_emoji_extension.Given as goal
 
 -- `parse::Parse::parse_emoji_extension` meets its contract. Assumes nothing.

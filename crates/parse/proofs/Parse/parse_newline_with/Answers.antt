@@ -1,6 +1,5 @@
 use Rattle.parse.specs.Shared.{newline, newline_with}
 use Rattle.parse.proofs.Rules.{by_crowded, by_roomy}
-use borrow.Author.Rules.{rules}
 use Rattle.parse.proofs.Parse.parse_newline_with.Goals as goal
 
 pub returns-then-is_crowded : goal.returns-then-is_crowded

@@ -1,4 +1,3 @@
-use borrow.Author.Rules.{rules}
 use Rattle.parse.proofs.Parse.place.Goals as goal
 
 -- `parse::Parse::place` meets its contract. Assumes nothing.

@@ -1,7 +1,5 @@
 use Prim.Native.Nat.{◌-◌}
-use mathlib.Core.Path.{refl, sym}
-use Rattle.parse.proofs.Joiners.{Left, left_turn, left_falls, left_over}
-use borrow.Author.Rules.{rules}
+use Rattle.parse.proofs.Joiners.{Left}
 use Rattle.parse.proofs.Parse.push.Given as goal
 
 -- `parse::Parse::push` meets its contract. Assumes nothing.

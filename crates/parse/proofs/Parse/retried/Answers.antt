@@ -1,5 +1,4 @@
 use mathlib.Core.Path.{◌∙◌}
-use borrow.Author.Rules.{rules}
 use Rattle.parse.proofs.Parse.retried.Goals as goal
 
 pub returns-then-passes_end : goal.returns-then-passes_end

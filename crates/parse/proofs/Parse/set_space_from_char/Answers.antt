@@ -1,5 +1,4 @@
 use Rattle.parse.proofs.Rules.{by_change}
-use borrow.Author.Rules.{rules}
 use Rattle.parse.proofs.Parse.set_space_from_char.Goals as goal
 
 pub returns : goal.returns

@@ -1,7 +1,6 @@
 use mathlib.Core.Path.{sym, ◌∙◌}
 use Rattle.parse.proofs.Rules.{step_onto}
 use Rattle.parse.proofs.Moves.{step_stays}
-use borrow.Author.Rules.{rules}
 use Rattle.parse.proofs.Parse.step.Goals as goal
 
 pub returns-then-on_joiner : goal.returns-then-on_joiner

@@ -1,5 +1,4 @@
 use borrow.Author.Tests.{eq-eqb, ne_eqb}
-use borrow.Author.Rules.{rules}
 use Rattle.parse.proofs.class_o.other_class.Goals as goal
 
 pub returns-then-x-eq-ZWNJ : goal.returns-then-x-eq-ZWNJ

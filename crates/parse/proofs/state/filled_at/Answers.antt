@@ -1,5 +1,4 @@
 use mathlib.Core.Path.{◌∙◌}
-use borrow.Author.Rules.{rules}
 use Rattle.parse.proofs.state.filled_at.Goals as goal
 
 pub returns-in-Whole : goal.returns-in-Whole

@@ -1,4 +1,3 @@
-use borrow.Author.Rules.{rules}
 use Rattle.parse.proofs.state.last_room.Goals as goal
 
 pub returns-in-Whole : goal.returns-in-Whole

@@ -1,5 +1,4 @@
 use borrow.Author.Tests.{lt-ltb, le-ltb}
-use borrow.Author.Rules.{rules}
 use Rattle.parse.proofs.state.one_more.Goals as goal
 
 pub returns-then-m-lt65535 : goal.returns-then-m-lt65535

@@ -1,5 +1,4 @@
 use borrow.Author.Tests.{lt-ltb, le-ltb}
-use borrow.Author.Rules.{rules}
 use Rattle.parse.proofs.state.place_after.Goals as goal
 
 pub returns-then-i-n : goal.returns-then-i-n

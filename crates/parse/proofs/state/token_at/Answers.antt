@@ -1,6 +1,5 @@
 use lib.ListN.{get_or-eq_default}
 use mathlib.Core.Path.{sym}
-use borrow.Author.Rules.{rules}
 use Rattle.parse.proofs.state.token_at.Goals as goal
 
 pub returns-else-i-text : goal.returns-else-i-text

@@ -2,7 +2,6 @@ use mathlib.Core.Bool.{not}
 use mathlib.Core.Path.{sym, ap}
 use Rattle.records.specs.Text.{text_in}
 use Rattle.stream.proofs.Piece.{itself_marked, itself_unmarked}
-use borrow.Author.Rules.{rules}
 use Rattle.stream.proofs.pieces.gives_itself.Goals as goal
 
 pub returns-then-byte-eq1 : goal.returns-then-byte-eq1

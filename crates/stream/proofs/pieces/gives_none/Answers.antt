@@ -1,5 +1,4 @@
 use borrow.Author.Tests.{eq-eqb, ne_eqb}
-use borrow.Author.Rules.{rules}
 use Rattle.stream.proofs.pieces.gives_none.Goals as goal
 
 pub returns-then-stands_alone : goal.returns-then-stands_alone

@@ -1,4 +1,3 @@
-use borrow.Author.Rules.{rules}
 use Rattle.basics.proofs.Choices.{chains}
 use Rattle.stream.proofs.pieces.is_split_sign.Goals as goal
 

@@ -1,7 +1,6 @@
 use Rattle.records.specs.Text.{text_in}
 use Rattle.stream.proofs.Piece.{index_twice}
 use mathlib.Core.Path.{◌∙◌}
-use borrow.Author.Rules.{rules}
 use Rattle.stream.proofs.pieces.part_token.Goals as goal
 
 pub returns : goal.returns

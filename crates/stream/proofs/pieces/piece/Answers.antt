@@ -1,6 +1,5 @@
 use Rattle.records.specs.Text.{text_in}
 use Rattle.stream.proofs.Piece.{piece_itself, piece_part, piece_first, piece_second}
-use borrow.Author.Rules.{rules}
 use Rattle.stream.proofs.pieces.piece.Goals as goal
 
 pub returns-then-gives_itself : goal.returns-then-gives_itself

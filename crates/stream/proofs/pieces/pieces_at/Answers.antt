@@ -1,6 +1,5 @@
 use Rattle.records.specs.Text.{text_in}
 use mathlib.Core.Path.{◌∙◌}
-use borrow.Author.Rules.{rules}
 use Rattle.stream.proofs.pieces.pieces_at.Goals as goal
 
 pub returns : goal.returns

@@ -1,4 +1,3 @@
-use borrow.Author.Rules.{rules}
 use Rattle.stream.proofs.pieces.stands_alone.Goals as goal
 
 pub returns-in-Whole : goal.returns-in-Whole

@@ -1,5 +1,4 @@
 use borrow.Author.Tests.{lt-ltb, le-ltb}
-use borrow.Author.Rules.{rules}
 use Rattle.stream.proofs.spots.behind.Goals as goal
 
 pub returns-then-k-pieces : goal.returns-then-k-pieces

@@ -1,10 +1,7 @@
 use Rattle.records.specs.Text.{text_in}
-use Rattle.stream.specs.Stream.{split_in}
-use Rattle.stream.specs.Inner.{rest}
 use Rattle.stream.proofs.Stream.{rest_over}
 use Rattle.stream.proofs.Taking.{taken_here, taken_on}
-use mathlib.Core.Path.{◌≡◌, refl, ◌∙◌, ap}
-use Prim.Native.Nat.{◌-◌}
+use mathlib.Core.Path.{refl, ◌∙◌, ap}
 use native.Mathlib.Omega.{arith}
 use lib.ListN.{length}
 use borrow.Author.Rules.{rules}

@@ -1,13 +1,9 @@
 use Rattle.records.specs.Text.{text_in}
 use Rattle.stream.specs.Stream.{split_in}
 use Rattle.stream.specs.Inner.{rest}
-use Rattle.stream.proofs.Stream.{rest_over}
-use Rattle.stream.proofs.Taking.{taken_here, taken_on}
-use mathlib.Core.Path.{◌≡◌, refl, ◌∙◌, ap}
+use mathlib.Core.Path.{◌≡◌}
 use Prim.Native.Nat.{◌-◌}
-use native.Mathlib.Omega.{arith}
 use lib.ListN.{length}
-use borrow.Author.Rules.{rules}
 use Rattle.stream.proofs.spots.take.Given as goal
 
 abbrev pub invariant-loop-i : goal.invariant-loop-i
