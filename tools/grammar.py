@@ -5,7 +5,7 @@ bodies are built of names, numbers, applications, `λ` and the operators below. 
 file may hold anything else beside. What cannot be read is an error that names file and line.
 
 A term is a number, a Variable, a Lambda, or a tuple of a head and its arguments. A head is a constructor's name, a Definition or a
-Primitive; in a body it may be a Variable too. The value of a term holds no definition that has all of its arguments: `acceptAs 6
+Primitive; in a body it may be a Variable too. The value of a term holds no definition that has all of its arguments: `accept_as 6
 Base` is unfolded, but `is 6`, which waits for a text and a place, stays. So the value of a grammar is a tree of the constructors of
 `Rule`, whose tests can be written down again by name, and are answered by giving them a text and a place.
 """
@@ -20,7 +20,7 @@ ROOT = pathlib.Path(__file__).resolve().parent.parent
 OPERATORS = {
     "⇒": (1, True), "▸": (2, True), "||": (3, False), "∷": (4, True), "+": (5, False), "*": (6, False), "/": (6, False), "%": (6, False)
 }
-# the first sign of a row, `_⇒_∣_` or `_⇒_▹_`, and what can be its second, which says which of them it is
+# the first sign of a row, `◌⇒◌∣◌` or `◌⇒◌▹◌`, and what can be its second, which says which of them it is
 ROW, SECOND_SIGNS = "⇒", ("∣", "▹")
 # the constructors of antt's libraries
 CONSTRUCTORS = {"true", "false", "[]", "∷"}
@@ -29,7 +29,8 @@ WORD = re.compile(r"[().]|[^\s().]+")
 USE = re.compile(r"use (\S+)\.\{(.*)\}")
 DATA = re.compile(r"(?:pub )?data (\S+)")
 SIGNATURE = re.compile(r"(unfoldable|abbrev) (?:pub )?(\S+) :")
-SPECS = re.compile(r"Rattle·(\w+)(?:·specs)?\.specs\.(\w+)")
+# a file of specs of a crate; the library `std` is none
+SPECS = re.compile(r"Rattle\.(?!std\.)(\w+)\.specs\.(\w+)")
 
 
 class Unreadable(Exception):
@@ -84,7 +85,7 @@ PRIMITIVES = [
     Primitive("eqb", 2, lambda a, b: TRUE if a == b else FALSE),
     Primitive("||", 2, lambda a, b: TRUE if a == TRUE else b),
     Primitive("cond", 3, lambda test, a, b: a if test == TRUE else b),
-    Primitive("getD", 3, lambda xs, place, default: next(itertools.islice(items(xs), place, None), default)),
+    Primitive("get_or", 3, lambda xs, place, default: next(itertools.islice(items(xs), place, None), default)),
 ]
 
 
@@ -220,8 +221,8 @@ def statements(text):
 
 
 def bare(name):
-    """An operator's name without the places before and behind it: ▸ for _▸_, ⇒_∣ for _⇒_∣_."""
-    return name.strip("_")
+    """An operator's name without the places before and behind it: ▸ for ◌▸◌, ⇒◌∣ for ◌⇒◌∣◌."""
+    return name.strip("◌")
 
 
 class Module:
@@ -281,7 +282,7 @@ def imports(origin, names):
 
 
 def imported(origin, name):
-    if origin.endswith(".the-variants") or name in CONSTRUCTORS:
+    if origin.endswith(".TheVariants") or name in CONSTRUCTORS:
         return name
     if specs := SPECS.fullmatch(origin):
         return module(*specs.groups()).find(name)
@@ -348,7 +349,7 @@ class Reader:
         inner = self.term()
         if self.next not in SECOND_SIGNS:
             self.fail()
-        return self.head(f"{ROW}_{self.next}"), inner
+        return self.head(f"{ROW}◌{self.next}"), inner
 
     def application(self):
         function, args = self.atom(), []

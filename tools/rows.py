@@ -92,7 +92,7 @@ class Sample:
         return self.answers[test]
 
     def shape(self, function):
-        return SHAPE.value("shapeCode", applied(function, [self.token]))
+        return SHAPE.value("shape_code", applied(function, [self.token]))
 
 
 def simple_symbols():
@@ -168,7 +168,7 @@ class Table:
 
     @property
     def antt_name(self):
-        return f"{self.name.lower()}Table"
+        return f"{self.name.lower()}_table"
 
     @property
     def is_paired(self):
