@@ -16,45 +16,45 @@ abbrev samples : List ℕ
 samples =
 $samples
 
-abbrev pub sampleAt : ℕ → ℕ
-sampleAt j = getD samples j 0
+abbrev pub sample_at : ℕ → ℕ
+sample_at j = get_or samples j 0
 """
 
 LOOK_AHEAD = """
 -- a kinzi's look-ahead
-abbrev pub textAt : ℕ → List ℕ
-textAt j = sampleAt j ∷ cond (ltb j $kinzis) [] ($behind)
+abbrev pub text_at : ℕ → List ℕ
+text_at j = sample_at j ∷ cond (ltb j $kinzis) [] ($behind)
 """
 
 ANSWERS = """
-abbrev pub answerAt : ℕ → Test → Bool
-answerAt j p = p ($text) 0
+abbrev pub answer_at : ℕ → Test → Bool
+answer_at j p = p ($text) 0
 
-abbrev cellIn : ℕ → Rule → Cell
-cellIn j r = cellOf (sampleAt j) (first (answerAt j) r)
+abbrev cell_in : ℕ → Rule → Cell
+cell_in j r = cell_of (sample_at j) (first (answer_at j) r)
 """
 
 RIGHT = """
 abbrev pub expected : ℕ → ℕ → Cell
-expected j zero = fresh (cellIn j $cluster)
-expected j (suc r) = orFresh (cellIn j (getD rules r skip)) (cellIn j $cluster)
+expected j zero = fresh (cell_in j $cluster)
+expected j (suc r) = or_fresh (cell_in j (get_or rules r skip)) (cell_in j $cluster)
 
 -- one computed test over the whole table
-right : tabulate (λ j. expected (j / $rows) (j % $rows)) 0 $cells ≡ map (decodedBy rules) $table
+right : tabulate (λ j. expected (j / $rows) (j % $rows)) 0 $cells ≡ map (decoded_by rules) $table
 unfolding $table $grammar $names
 right = refl
 
-pub right-at : (j : ℕ) → j < $cells → expected (j / $rows) (j % $rows) ≡ decodedBy rules (getD $table j 0)
-right-at j h = tab-at (λ j. expected (j / $rows) (j % $rows)) (decodedBy rules) $cells $table right j h
+pub right_at : (j : ℕ) → j < $cells → expected (j / $rows) (j % $rows) ≡ decoded_by rules (get_or $table j 0)
+right_at j h = tab_at (λ j. expected (j / $rows) (j % $rows)) (decoded_by rules) $cells $table right j h
 """
 
 RIGHT_OF_PAIRS = """
-abbrev openingIn : ℕ → Cell
-openingIn j = $opening
+abbrev opening_in : ℕ → Cell
+opening_in j = $opening
 
 abbrev pub expected : ℕ → ℕ → Cell
-expected j zero = fresh (openingIn j)
-expected j (suc r) = orFresh (cellIn j (getD rules r skip)) (cond (eqb r $late) over (openingIn j))
+expected j zero = fresh (opening_in j)
+expected j (suc r) = or_fresh (cell_in j (get_or rules r skip)) (cond (eqb r $late) over (opening_in j))
 
 -- the index of a row and a pair
 abbrev pub place : ℕ → ℕ → ℕ
@@ -66,60 +66,60 @@ feasible a e = cond (member $saying a) (cond (member $others e) false true) (con
 
 -- one computed test over all pairs and rows
 right : tabulate (λ n. cond (feasible (n / $block) (n / $rows % $seconds)) (expected (n / $rows) (n % $rows)) over) 0 $tested
-    ≡ tabulate (λ n. cond (feasible (n / $block) (n / $rows % $seconds)) (decodedBy rules (getD $table (place (n / $rows) (n % $rows)) 0)) over) 0 $tested
+    ≡ tabulate (λ n. cond (feasible (n / $block) (n / $rows % $seconds)) (decoded_by rules (get_or $table (place (n / $rows) (n % $rows)) 0)) over) 0 $tested
 unfolding $table $grammar $names
 right = refl
 
-pub right-at : (n : ℕ) → n < $tested → feasible (n / $block) (n / $rows % $seconds) ≡ true → expected (n / $rows) (n % $rows) ≡ decodedBy rules (getD $table (place (n / $rows) (n % $rows)) 0)
-right-at n h f =
+pub right_at : (n : ℕ) → n < $tested → feasible (n / $block) (n / $rows % $seconds) ≡ true → expected (n / $rows) (n % $rows) ≡ decoded_by rules (get_or $table (place (n / $rows) (n % $rows)) 0)
+right_at n h f =
     ap (λ b. cond b (expected (n / $rows) (n % $rows)) over) (sym f)
-    ∙ agree (λ n. cond (feasible (n / $block) (n / $rows % $seconds)) (expected (n / $rows) (n % $rows)) over) (λ n. cond (feasible (n / $block) (n / $rows % $seconds)) (decodedBy rules (getD $table (place (n / $rows) (n % $rows)) 0)) over) $tested right n h
-    ∙ ap (λ b. cond b (decodedBy rules (getD $table (place (n / $rows) (n % $rows)) 0)) over) f
+    ∙ agree (λ n. cond (feasible (n / $block) (n / $rows % $seconds)) (expected (n / $rows) (n % $rows)) over) (λ n. cond (feasible (n / $block) (n / $rows % $seconds)) (decoded_by rules (get_or $table (place (n / $rows) (n % $rows)) 0)) over) $tested right n h
+    ∙ ap (λ b. cond b (decoded_by rules (get_or $table (place (n / $rows) (n % $rows)) 0)) over) f
 """
 
 OKAY = """
-all-okay : tabulate (λ j. true) 0 $cells ≡ map (okay $rows) $table
+all_okay : tabulate (λ j. true) 0 $cells ≡ map (okay $rows) $table
 unfolding $table
-all-okay = refl
+all_okay = refl
 
-pub okay-at : (j : ℕ) → j < $cells → true ≡ okay $rows (getD $table j 0)
-okay-at j h = tab-at (λ j. true) (okay $rows) $cells $table all-okay j h
+pub okay_at : (j : ℕ) → j < $cells → true ≡ okay $rows (get_or $table j 0)
+okay_at j h = tab_at (λ j. true) (okay $rows) $cells $table all_okay j h
 """
 
 CLUSTER_FREE = """
-pub cluster-free : free $cluster ≡ true
+pub cluster_free : free $cluster ≡ true
 unfolding $grammar
-cluster-free = refl
+cluster_free = refl
 """
 
 CLUSTER_SPARE = """
-pub cluster-spare : spare false $cluster ≡ true
+pub cluster_spare : spare false $cluster ≡ true
 unfolding $grammar
-cluster-spare = refl
+cluster_spare = refl
 """
 
 SPARE = """
-all-spare : allTrue (map (spare false) rules) ≡ true
+all_spare : all_true (map (spare false) rules) ≡ true
 unfolding $names
-all-spare = refl
+all_spare = refl
 
-pub spare-at : (j : ℕ) → spare false (getD rules j skip) ≡ true
-spare-at j = map-at (spare false) rules skip j ∙ true-at (map (spare false) rules) all-spare j
+pub spare_at : (j : ℕ) → spare false (get_or rules j skip) ≡ true
+spare_at j = map_at (spare false) rules skip j ∙ true_at (map (spare false) rules) all_spare j
 """
 
 # as SPARE, but for the one rule with a `fit`
 SPARE_BUT_ONE = """
 -- the rule that is left behind prepended characters, in which a `fit` may stop: the grammar itself
-pub fitting-is : getD rules $fitting skip ≡ $cluster
+pub fitting_is : get_or rules $fitting skip ≡ $cluster
 unfolding $grammar $names
-fitting-is = refl
+fitting_is = refl
 
-all-spare : tabulate (λ j. cond (eqb j $fitting) true (spare false (getD rules j skip))) 0 $rules_many ≡ tabulate (λ j. true) 0 $rules_many
+all_spare : tabulate (λ j. cond (eqb j $fitting) true (spare false (get_or rules j skip))) 0 $rules_many ≡ tabulate (λ j. true) 0 $rules_many
 unfolding $names
-all-spare = refl
+all_spare = refl
 
-pub spare-at : (j : ℕ) → j < $rules_many → cond (eqb j $fitting) true (spare false (getD rules j skip)) ≡ true
-spare-at j h = agree (λ j. cond (eqb j $fitting) true (spare false (getD rules j skip))) (λ j. true) $rules_many all-spare j h
+pub spare_at : (j : ℕ) → j < $rules_many → cond (eqb j $fitting) true (spare false (get_or rules j skip)) ≡ true
+spare_at j h = agree (λ j. cond (eqb j $fitting) true (spare false (get_or rules j skip))) (λ j. true) $rules_many all_spare j h
 """
 
 SIMPLE = [RULES, ANSWERS, RIGHT, OKAY, CLUSTER_FREE, SPARE_BUT_ONE]
@@ -195,9 +195,9 @@ def text_parameters(table):
     """What is said of the text that a sample begins. Only kinzis, the last symbols, have something behind them."""
     kinzis = [number for number, symbol in enumerate(table.symbols) if symbol.behind]
     if not kinzis:
-        return {"text": "sampleAt j ∷ []"}
+        return {"text": "sample_at j ∷ []"}
     behind = table.symbols[kinzis[0]].behind
-    return {"text": "textAt j", "kinzis": kinzis[0] * len(table.seconds), "behind": chain(f"0x{scalar:04X}" for scalar in behind)}
+    return {"text": "text_at j", "kinzis": kinzis[0] * len(table.seconds), "behind": chain(f"0x{scalar:04X}" for scalar in behind)}
 
 
 def pair_parameters(table):
@@ -224,7 +224,7 @@ def pair_parameters(table):
 
 def opening(table):
     """The cell that begins a cluster; over at a symbol where the table opens none."""
-    cell = f"cellIn j {argument(table.cluster)}"
+    cell = f"cell_in j {argument(table.cluster)}"
     closed = [number for number, symbol in enumerate(table.symbols) if not symbol.opens]
     return f"cond (eqb (j / {len(table.seconds)}) {closed[0]}) over ({cell})" if closed else cell
 
@@ -234,27 +234,27 @@ def opening(table):
 
 def origins(table):
     """What a file can name, and where it is from."""
-    shapes = [clause.patterns[0][0] for clause in SHAPE.find("shapeCode").clauses]
-    cells = "Cell over cellOf fresh orFresh decodedBy okay tabulate tab-at agree map-at allTrue true-at"
+    shapes = [clause.patterns[0][0] for clause in SHAPE.find("shape_code").clauses]
+    cells = "Cell over cell_of fresh or_fresh decoded_by okay tabulate tab_at agree map_at all_true true_at"
     return [
-        ("Prim.Native.Nat", "ℕ zero suc _+_ _*_ _/_ _%_ _<_".split()),
-        ("mathlib.Core.Path", "_≡_ refl sym _∙_ ap".split()),
+        ("Prim.Native.Nat", "ℕ zero suc ◌+◌ ◌*◌ ◌/◌ ◌%◌ ◌<◌".split()),
+        ("mathlib.Core.Path", "◌≡◌ refl sym ◌∙◌ ap".split()),
         ("mathlib.Core.Bool", "Bool true false cond".split()),
-        ("mathlib.Core.List", "List [] _∷_ map".split()),
+        ("mathlib.Core.List", "List [] ◌∷◌ map".split()),
         ("lib.Dec", "eqb ltb".split()),
-        ("lib.ListN", ["getD"]),
-        ("Rattle·basics.specs.Sets", ["member"]),
-        ("Rattle·classes.specs.declared.Shape.the-variants", shapes),
-        ("Rattle·parse.specs.declared.Emoji.the-variants", "Default Text Color".split()),
-        ("Rattle·parse.specs.declared.Space.the-variants", ["Newline"]),
-        ("Rattle·token.specs.Token", TOKEN.own),
-        ("Rattle·parse.specs.Rule", RULE.own),
-        ("Rattle·parse.specs.Shared", module("parse", "Shared").own),
-        (f"Rattle·{table.crate}.specs.Grammar", table.module.own),
-        (f"Rattle·tables·specs.specs.{table.name}Table", [table.antt_name]),
-        ("Rattle·parse.proofs.Free", ["free"]),
-        ("Rattle·residual.proofs.Residual", ["spare", "first"]),
-        ("Rattle·tables·proofs.proofs.Cells", cells.split()),
+        ("lib.ListN", ["get_or"]),
+        ("Rattle.basics.specs.Sets", ["member"]),
+        ("Rattle.classes.specs.declared.Shape.TheVariants", shapes),
+        ("Rattle.parse.specs.declared.Emoji.TheVariants", "Default Text Color".split()),
+        ("Rattle.parse.specs.declared.Space.TheVariants", ["Newline"]),
+        ("Rattle.token.specs.Token", TOKEN.own),
+        ("Rattle.parse.specs.Rule", RULE.own),
+        ("Rattle.parse.specs.Shared", module("parse", "Shared").own),
+        (f"Rattle.{table.crate}.specs.Grammar", table.module.own),
+        (f"Rattle.tables.specs.{table.name}Table", [table.antt_name]),
+        ("Rattle.parse.proofs.Free", ["free"]),
+        ("Rattle.residual.proofs.Residual", ["spare", "first"]),
+        ("Rattle.tables.proofs.Cells", cells.split()),
     ]
 
 

@@ -2,11 +2,16 @@
 import argparse
 import pathlib
 import sys
+import textwrap
 from typing import NamedTuple
 
 ROOT = pathlib.Path(__file__).resolve().parent.parent
-# how long a line of an array may be
+# `rt fmt` lays an array out in one line if its cells are no longer than this,
 SHORT = 60
+# or else with as many cells to a line as there is room for, if each is short, or else with one cell to a line
+SHORT_CELL = 10
+ROOM = 99
+INDENT = "    "
 
 
 class Cells(NamedTuple):
@@ -19,7 +24,7 @@ class Cells(NamedTuple):
 
 def spec_file(note, lists, width):
     """As many cells to a line as `width` says."""
-    text = f"-- What only private contracts need. {note}\nuse Prim.Native.Nat.{{ℕ}}\nuse mathlib.Core.List.{{List, [], _∷_}}\n"
+    text = f"-- What only private contracts need. {note}\nuse Rattle.std.specs.Prelude.{{ℕ, List, [], ◌∷◌}}\n"
     for one in lists:
         lines = (one.cells[start : start + width] for start in range(0, len(one.cells), width))
         chain = "".join(f"    {' ∷ '.join(map(str, line))} ∷\n" for line in lines)
@@ -36,11 +41,15 @@ def code_file(note, lists):
 
 
 def array(cells):
-    """As `rt fmt` lays it out: in one line if it is short."""
+    """As `rt fmt` lays it out."""
     line = ", ".join(map(str, cells))
     if len(line) <= SHORT:
         return f"[{line}]"
-    return "[\n" + "".join(f"    {cell},\n" for cell in cells) + "]"
+    if max(len(str(cell)) for cell in cells) > SHORT_CELL:
+        lines = [f"{INDENT}{cell}," for cell in cells]
+    else:
+        lines = textwrap.wrap(line + ",", ROOM, initial_indent=INDENT, subsequent_indent=INDENT)
+    return "\n".join(["[", *lines, "]"])
 
 
 def main(name, about, files):
