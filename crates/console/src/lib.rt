@@ -4,20 +4,22 @@
 ghost use Rattle.std.specs.Prelude.{◌≡◌};
 ghost use Rattle.console.specs.Letters.{side_letter};
 
-use libc::STDOUT_FILENO;
 use records::{Refusal, Side};
 
+// The descriptor of standard output.
+const STDOUT: i32 = 1;
+
 pub fn write(text: &[u8]) {
-    io::write_all(STDOUT_FILENO, text);
+    io::write_all(STDOUT, text);
 }
 
 pub fn decimal(n: u64) {
-    io::print_decimal(STDOUT_FILENO, n);
+    io::print_decimal(STDOUT, n);
 }
 
 // Capital digits, four at least.
 pub fn hex(n: u32) {
-    io::print_hex(STDOUT_FILENO, n as u64, 4);
+    io::print_hex(STDOUT, n as u64, 4);
 }
 
 // The letter that a line of answers has for a side.
