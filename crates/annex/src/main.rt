@@ -5,7 +5,9 @@
 
 use cases::{Kind, Number};
 use console::write;
-use libc::STDIN_FILENO;
+
+// The descriptor of standard input.
+const STDIN: i32 = 0;
 
 // More than a line of the files has.
 type Cells = [u8; 64];
@@ -106,6 +108,6 @@ fn answer_all(input: &[u8]) {
 
 fn main() {
     let mut input = [0u8; 131072];
-    let n = io::read_full(STDIN_FILENO, &mut input);
+    let n = io::read_full(STDIN, &mut input);
     answer_all(&input[..n]);
 }

@@ -2,6 +2,8 @@
 // input where the argument is -, or the story's label where there is none.
 #![tactic(auto)]
 
+ghost use Rattle.std.specs.Prelude.{◌≤◌, length};
+
 mod boxes;
 mod cells;
 mod labels;
@@ -13,9 +15,10 @@ mod utf8;
 mod zeros;
 
 use labels::show;
-use libc::STDIN_FILENO;
 use print::write;
 use records::cells::cell8;
+use std::env::{Env, FillError};
+use std::io::{Read, Stdin};
 
 // A label that is longer is refused; one of 4097 characters fits, so that the library sees it.
 type Stored = [u8; 65536];
@@ -75,10 +78,19 @@ struct Turn {
     open: bool,
 }
 
-fn read_some(label: &mut Stored, kept: Kept) -> Turn {
+// What one read gives, so that a user at a terminal is answered line by line. A read that fails ends the input.
+fn read_chunk(mut input: Stdin, chunk: &mut [u8]) -> usize
+    ensures { result ≤ length chunk.new }
+{
+    match input.read(chunk) {
+        Ok(n) => n,
+        Err(_) => 0,
+    }
+}
+
+fn read_some(input: Stdin, label: &mut Stored, kept: Kept) -> Turn {
     let mut chunk = io::large_buffer();
-    let got = libc::read(STDIN_FILENO, &mut chunk);
-    let n = io::count(got, &chunk);
+    let n = read_chunk(input, &mut chunk);
     if n == 0 {
         return Turn { kept, open: false };
     }
@@ -89,14 +101,14 @@ fn read_some(label: &mut Stored, kept: Kept) -> Turn {
 }
 
 // Nothing says that the input ends, so the turns count down from a number that no run uses up.
-fn read_all(label: &mut Stored) -> Kept {
+fn read_all(input: Stdin, label: &mut Stored) -> Kept {
     let mut turn = Turn {
         kept: NOTHING,
         open: true,
     };
     let mut turns = u64::MAX;
     while turns > 0 {
-        turn = read_some(label, turn.kept);
+        turn = read_some(input, label, turn.kept);
         if turn.open {
             turns -= 1;
         } else {
@@ -113,9 +125,9 @@ fn finish(label: &Stored, kept: Kept) {
     }
 }
 
-fn show_lines() {
+fn show_lines(input: Stdin) {
     let mut label = [0u8; 65536];
-    let kept = read_all(&mut label);
+    let kept = read_all(input, &mut label);
     finish(&label, kept);
 }
 
@@ -130,17 +142,20 @@ fn add_all(label: &mut Stored, start: Kept, bytes: &[u8]) -> Kept {
 }
 
 // An argument after a blank.
-fn add_argument(label: &mut Stored, mut kept: Kept, i: usize) -> Kept {
+fn add_argument(rt: HostRuntime, label: &mut Stored, mut kept: Kept, i: usize) -> Kept {
     let mut word = io::large_buffer();
-    let n = os::arg(i, &mut word);
-    if os::errno() != 0 {
-        kept.long = true;
-        return kept;
+    match rt.arg(i, &mut word) {
+        Ok(n) => {
+            if 1 < i {
+                kept = add(label, kept, b' ');
+            }
+            add_all(label, kept, &word[..n])
+        }
+        Err(_) => {
+            kept.long = true;
+            kept
+        }
     }
-    if 1 < i {
-        kept = add(label, kept, b' ');
-    }
-    add_all(label, kept, &word[..n])
 }
 
 fn is_dash(label: &[u8], kept: Kept) -> bool {
@@ -150,28 +165,44 @@ fn is_dash(label: &[u8], kept: Kept) -> bool {
     false
 }
 
-fn show_joined(label: &Stored, kept: Kept) {
+fn show_joined(input: Stdin, label: &Stored, kept: Kept) {
     if is_dash(label, kept) {
-        show_lines();
+        show_lines(input);
     } else {
         show_kept(label, kept);
     }
 }
 
-fn show_arguments(count: usize) {
+fn show_arguments(rt: HostRuntime, count: usize) {
     let mut label = [0u8; 65536];
     let mut kept = NOTHING;
     for i in 1..count {
-        kept = add_argument(&mut label, kept, i);
+        kept = add_argument(rt, &mut label, kept, i);
     }
-    show_joined(&label, kept);
+    show_joined(rt.stdin(), &label, kept);
 }
 
-fn main() {
-    let count = os::arg_count();
+// Whether the program has an argument of that number, the program's name being number 0.
+fn has_argument(rt: HostRuntime, i: usize) -> bool {
+    let mut first = [0u8; 1];
+    !matches!(rt.arg(i, &mut first), Err(FillError::NotPresent))
+}
+
+// With the program's name. The arguments end, so the count never comes to the last number.
+fn argument_count(rt: HostRuntime) -> usize {
+    for i in 0..usize::MAX {
+        if !has_argument(rt, i) {
+            return i;
+        }
+    }
+    usize::MAX
+}
+
+fn main(rt: HostRuntime) {
+    let count = argument_count(rt);
     if count < 2 {
         show(b"U+1004 U+103A U+1039");
     } else {
-        show_arguments(count);
+        show_arguments(rt, count);
     }
 }

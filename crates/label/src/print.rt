@@ -1,12 +1,13 @@
 // The small pieces of a line.
-use libc::STDOUT_FILENO;
+// The descriptor of standard output.
+const STDOUT: i32 = 1;
 
 pub(crate) fn write(text: &[u8]) {
-    io::write_all(STDOUT_FILENO, text);
+    io::write_all(STDOUT, text);
 }
 
 pub(crate) fn decimal(n: usize) {
-    io::print_decimal(STDOUT_FILENO, n as u64);
+    io::print_decimal(STDOUT, n as u64);
 }
 
 // "1 cluster", "2 clusters"

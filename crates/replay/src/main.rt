@@ -1,6 +1,8 @@
 // Cases from standard input, one a line; one line of answers for each.
 #![tactic(auto)]
 
+ghost use Rattle.std.specs.Prelude.{◌≤◌, length};
+
 mod answers;
 mod breaks;
 mod clusters;
@@ -10,8 +12,8 @@ mod refusals;
 mod texts;
 mod zeros;
 
-use libc::STDIN_FILENO;
 use out::Buffer;
+use std::io::{Read, Stdin};
 
 // A line that is longer is not of the layout.
 type Stored = [u8; 1048576];
@@ -74,10 +76,19 @@ struct Turn {
     open: bool,
 }
 
-fn read_some(line: &mut Stored, to: &mut Buffer, p: Place) -> Turn {
+// What one read gives, so that a user at a terminal is answered line by line. A read that fails ends the input.
+fn read_chunk(mut input: Stdin, chunk: &mut [u8]) -> usize
+    ensures { result ≤ length chunk.new }
+{
+    match input.read(chunk) {
+        Ok(n) => n,
+        Err(_) => 0,
+    }
+}
+
+fn read_some(input: Stdin, line: &mut Stored, to: &mut Buffer, p: Place) -> Turn {
     let mut chunk = io::large_buffer();
-    let got = libc::read(STDIN_FILENO, &mut chunk);
-    let n = io::count(got, &chunk);
+    let n = read_chunk(input, &mut chunk);
     if n == 0 {
         return Turn {
             place: p,
@@ -91,7 +102,7 @@ fn read_some(line: &mut Stored, to: &mut Buffer, p: Place) -> Turn {
 }
 
 // Nothing says that the input ends, so the turns count down from a number that no run uses up.
-fn read_all(line: &mut Stored, to: &mut Buffer) -> Place {
+fn read_all(input: Stdin, line: &mut Stored, to: &mut Buffer) -> Place {
     let mut turn = Turn {
         place: Place {
             length: 0,
@@ -103,7 +114,7 @@ fn read_all(line: &mut Stored, to: &mut Buffer) -> Place {
     };
     let mut turns = u64::MAX;
     while turns > 0 {
-        turn = read_some(line, to, turn.place);
+        turn = read_some(input, line, to, turn.place);
         if turn.open {
             turns -= 1;
         } else {
@@ -121,10 +132,10 @@ fn finish(line: &Stored, to: &mut Buffer, p: Place) -> usize {
     p.at
 }
 
-fn main() {
+fn main(rt: HostRuntime) {
     let mut line = [0u8; 1048576];
     let mut to = [0u8; 65536];
-    let p = read_all(&mut line, &mut to);
+    let p = read_all(rt.stdin(), &mut line, &mut to);
     let at = finish(&line, &mut to, p);
     out::flush(&to, at);
 }

@@ -1,5 +1,7 @@
 // The answers on their way out: `at` bytes of a buffer, which is written when it is full.
-use libc::STDOUT_FILENO;
+
+// The descriptor of standard output.
+const STDOUT: i32 = 1;
 
 pub type Buffer = [u8; 65536];
 
@@ -9,14 +11,14 @@ pub(crate) fn put(out: &mut Buffer, at: usize, byte: u8) -> usize {
         out[at] = byte;
         return at + 1;
     }
-    io::write_all(STDOUT_FILENO, out);
+    io::write_all(STDOUT, out);
     out[0] = byte;
     1
 }
 
 fn write_first(bytes: &[u8], n: usize) {
     if n <= bytes.len() {
-        io::write_all(STDOUT_FILENO, &bytes[..n]);
+        io::write_all(STDOUT, &bytes[..n]);
     }
 }
 
