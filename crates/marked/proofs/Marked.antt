@@ -25,7 +25,7 @@ use Rattle.segment.specs.declared.Answer.{Answer}
 use Rattle.segment.specs.declared.Segmenter.{Segmenter}
 use Rattle.words.specs.Rules as Rules
 use Rattle.words.specs.Run as Run
-use Rattle.marked.specs.Cases.{Case, Outcome, table, pair, standing, text_for, stepping, answers_of, chars, given, told}
+use Rattle.marked.specs.Cases.{Outcome, table, pair, standing, text_for, stepping, answers_of, chars, given, told}
 use Rattle.marked.specs.Readings.{readings}
 
 -- an accepted text of two tokens, of which the first call takes one

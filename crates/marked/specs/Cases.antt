@@ -1,5 +1,5 @@
 -- The sixteen marked cases of SCOPE 9.1 as one table: texts, and what the calls answer on each, from the start to the end.
-use Rattle.std.specs.Prelude.{ℕ, zero, suc, ◌+◌, ◌-◌, Bool, true, false, List, [], ◌∷◌, ◌++◌, map, length, replicate}
+use Rattle.std.specs.Prelude.{ℕ, zero, suc, ◌+◌, ◌-◌, true, false, List, [], ◌∷◌, ◌++◌, map, length, replicate}
 use Rattle.classes.specs.Category as Category
 use Rattle.classes.specs.ClusterBreak as Break
 use Rattle.classes.specs.MyanmarClass as Myanmar-class
@@ -20,7 +20,7 @@ use Rattle.parse.specs.declared.Info.{Info}
 use Rattle.parse.specs.declared.Pushed.{Pushed}
 use Rattle.parse.specs.declared.Space.{Space}
 use Rattle.parse.specs.declared.Space.TheVariants.{None as NoSpace, Newline, From}
-use Rattle.parse.specs.State.{nothing, no_info, empty_cluster, start_place}
+use Rattle.parse.specs.State.{nothing, no_info, empty_cluster}
 use Rattle.segment.specs.Calls.{next_of}
 use Rattle.segment.specs.declared.Answer.{Answer}
 use Rattle.segment.specs.declared.Segmenter.{Segmenter}
