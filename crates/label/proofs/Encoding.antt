@@ -1,17 +1,16 @@
 -- The decoder reads what UTF-8 writes: of every scalar value's bytes, whatever follows them, it answers that scalar and their number.
 -- Assumes nothing.
 use Prim.Native.Nat.{ℕ, ◌+◌, ◌*◌, ◌/◌, ◌%◌, ◌≤◌, ◌<◌}
-use mathlib.Core.Path.{◌≡◌, refl, sym, ◌∙◌, ap}
-use mathlib.Core.Bool.{Bool, true, false, cond}
-use mathlib.Core.List.{List, [], ◌∷◌, ◌++◌}
+use mathlib.Core.Path.{◌≡◌}
+use mathlib.Core.Bool.{true, false}
+use mathlib.Core.List.{List, ◌∷◌, ◌++◌}
 use mathlib.Core.Logic.{◌⊎◌, ⊎_elim}
 use native.Mathlib.Omega.{arith}
 use lib.Dec.{eqb, ltb}
 use lib.ListN.{length}
 use borrow.Author.Tests.{lt-ltb, le-ltb, eq-eqb, ltb-true, ltb-false}
 use Rattle.basics.proofs.Tests.{by_test}
-use Rattle.label.specs.declared.utf8.Decoded.{Decoded}
-use Rattle.label.specs.declared.utf8.Decoded.TheVariants.{Scalar, Bad}
+use Rattle.label.specs.declared.utf8.Decoded.TheVariants.{Scalar}
 use Rattle.spans.specs.Utf8.{encode_of}
 use Rattle.label.specs.Utf8.{tail, six, two, three, three_of, four, four_of, decode_from, decode_of}
 

@@ -1,8 +1,8 @@
 -- A text of bytes read character by character: what is read so far, and what is left. Assumes nothing.
 use Prim.Native.Nat.{ℕ, zero, suc, ◌+◌, ◌-◌, ◌≤◌, ◌<◌, min}
 use mathlib.Core.Path.{◌≡◌, refl, sym, ◌∙◌, ap}
-use mathlib.Core.Bool.{Bool, true, false, cond}
-use mathlib.Core.List.{List, [], ◌∷◌, ◌++◌}
+use mathlib.Core.Bool.{true, false, cond}
+use mathlib.Core.List.{List, [], ◌∷◌}
 use native.Mathlib.Numerals.{add-one}
 use native.Mathlib.Omega.{arith}
 use lib.Dec.{ltb}
@@ -10,11 +10,10 @@ use lib.ListN.{length, get_or, take, drop, set, length-drop, length-set, drop_of
 use lib.Seq.{take_all, take-suc, take-suc-set, set_out, get_or-drop, drop-drop}
 use borrow.Author.Tests.{ltb-true, ltb-false, lt-ltb, le-ltb}
 use Rattle.basics.proofs.Tests.{by_test}
-use Rattle.label.specs.declared.texts.Taken.{Taken}
 use Rattle.label.specs.declared.texts.Taken.TheVariants.{Scalars, NotUtf8}
 use Rattle.label.specs.declared.utf8.Decoded.{Decoded}
 use Rattle.label.specs.declared.utf8.Decoded.TheVariants.{Scalar, Bad}
-use Rattle.label.specs.Utf8.{decode_of, onward, scalars_from, passed, stop_from, read_of}
+use Rattle.label.specs.Utf8.{decode_of, scalars_from, stop_from, read_of}
 use Rattle.label.proofs.Decoding.{read_inside}
 
 -- bytes that are passed over

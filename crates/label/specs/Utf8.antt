@@ -1,5 +1,5 @@
 -- UTF-8: the scalar that some bytes begin with. A byte past the end is 0, which goes on with no character.
-use Rattle.std.specs.Prelude.{ℕ, zero, suc, ◌+◌, ◌-◌, ◌*◌, ◌/◌, ◌%◌, min, Bool, cond, ◌&&◌, List, [], ◌∷◌, eqb, ltb, length, get_or}
+use Rattle.std.specs.Prelude.{ℕ, zero, suc, ◌+◌, ◌-◌, ◌*◌, ◌/◌, ◌%◌, min, Bool, cond, List, [], ◌∷◌, eqb, ltb, length, get_or}
 use Rattle.label.specs.declared.texts.Taken.{Taken}
 use Rattle.label.specs.declared.texts.Taken.TheVariants.{Scalars, NotUtf8}
 use Rattle.label.specs.declared.utf8.Decoded.{Decoded}
