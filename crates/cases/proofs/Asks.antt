@@ -16,7 +16,6 @@ use Rattle.words.specs.declared.Next.TheVariants.{Class, End}
 use Rattle.lines.specs.declared.Strength.{Strength}
 use Rattle.lines.specs.declared.LineState.{LineState}
 use Rattle.lines.specs.declared.Previous.{Previous}
-use Rattle.lines.specs.declared.Previous.TheVariants as Previous
 use Rattle.cases.specs.declared.layout.Line.{Line}
 use Rattle.cases.specs.declared.layout.Line.TheVariants.{Skipped, NotOfLayout, Text, Marked, Step, Lent, Files}
 use Rattle.cases.specs.declared.layout.Machine.{Machine}

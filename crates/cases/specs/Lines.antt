@@ -11,7 +11,6 @@ use Rattle.lines.specs.declared.Strength.{Strength}
 use Rattle.lines.specs.declared.Strength.TheVariants.{Normal, BreakAll, KeepAll}
 use Rattle.lines.specs.declared.LineState.{LineState}
 use Rattle.lines.specs.declared.Previous.{Previous}
-use Rattle.lines.specs.declared.Previous.TheVariants as Previous
 use Rattle.cases.specs.declared.layout.Line.{Line}
 use Rattle.cases.specs.declared.layout.Line.TheVariants.{Skipped, NotOfLayout, Text, Marked, Step, Lent, Files}
 use Rattle.cases.specs.declared.layout.Machine.{Machine}

@@ -1,6 +1,6 @@
 -- The complex parser, src/text/cluster/complex.rs, "based on Microsoft's Universal Shaping Engine specification": a rule for each of its
 -- functions and for each longer arm. It goes by the USE class, and its `accept` and `accept_any` push Other. `khmer` says whether
--- the script is Khmer. The emoji loop and the arm `O` are the shared `emojis` and `otherArm`.
+-- the script is Khmer. The emoji loop and the arm `O` are the shared `emojis` and `other_arm`.
 use Rattle.std.specs.Prelude.{ℕ, Bool, true, false, cond, [], ◌∷◌, eqb}
 use Rattle.basics.specs.Choices.{◌⇒◌▹◌}
 use Rattle.classes.specs.declared.Shape.{Shape}

@@ -1,5 +1,5 @@
 -- "The Rust does not look whether the first `CMAbv*` and `CMBlw*` came to 32 characters or to the end of the text, and goes on with the
--- token that is still current" (SCOPE 6.6). What it does at that place, to be compared with the rule `markedSyllable`, which ends there
+-- token that is still current" (SCOPE 6.6). What it does at that place, to be compared with the rule `marked_syllable`, which ends there
 -- as everywhere else.
 use Rattle.std.specs.Prelude.{ℕ, ◌<◌, ◌≡◌, Bool, true, false, cond, List, [], ◌∷◌, map, length}
 use Rattle.basics.specs.Sets.{member}
@@ -79,7 +79,7 @@ infixr 20 ◌⇒◌∣◌
 abbrev ◌⇒◌∣◌ : Test → Tree → Tree → Tree
 test ⇒ tree ∣ later = fork test tree later
 
--- `standard` and its `standardTail`
+-- `standard` and its `standard_tail`
 abbrev pub standard_tree : Bool → Tree
 standard_tree potential =
     one_of (B ∷ GB ∷ []) ⇒ take Base then accept_as VS Vs then (is_symbol_mark potential ⇒ plain symbol_marks ∣ place)

@@ -13,7 +13,6 @@ use Rattle.lines.specs.declared.Strength.TheVariants.{Normal, BreakAll, KeepAll}
 use Rattle.lines.specs.declared.Previous.{Previous}
 use Rattle.lines.specs.declared.Previous.TheVariants.{Class, Nothing}
 use Rattle.lines.specs.declared.Boundary.{Boundary}
-use Rattle.lines.specs.declared.Boundary.TheVariants as Boundary
 use Rattle.lines.specs.declared.LineState.{LineState}
 use Rattle.lines.specs.Rules.{pair, previous_in, left_of, right_of, kept_together, is_mandatory, is_allowed, asked, told, keeps, line_answer, line_after}
 use Rattle.lines.specs.Refusals.{bad_previous, judged, step_verdict, step_of}

@@ -2,7 +2,7 @@
 -- Assumes nothing.
 use Prim.Native.Nat.{ℕ, zero, suc, ◌+◌, ◌<◌, ◌≤◌}
 use mathlib.Core.Path.{◌≡◌, refl, ap}
-use mathlib.Core.Bool.{true, false}
+use mathlib.Core.Bool.{false}
 use mathlib.Core.List.{List, [], ◌∷◌}
 use native.Mathlib.Omega.{arith}
 use native.Mathlib.Numerals.{add-one}
@@ -35,7 +35,6 @@ use Rattle.lines.specs.NextStep.{bad_record, next_verdict, next_ruled, next_of}
 use Rattle.lines.specs.Run.{state_at, line_at, boundary_at, answer_at, judge_record, check_verdict, run_verdict, run_cells}
 use Rattle.lines.specs.declared.Strength.{Strength}
 use Rattle.lines.specs.declared.Boundary.{Boundary}
-use Rattle.lines.specs.declared.Boundary.TheVariants as Boundary
 use Rattle.lines.specs.declared.BoundaryState.{BoundaryState}
 use Rattle.lines.specs.declared.BoundaryStep.{BoundaryStep}
 use Rattle.lines.proofs.Laws.{enough_rows, row_stays, never_word}

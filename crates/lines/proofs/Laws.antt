@@ -22,7 +22,6 @@ use Rattle.lines.specs.declared.Strength.{Strength}
 use Rattle.lines.specs.declared.Strength.TheVariants.{Normal, BreakAll, KeepAll}
 use Rattle.lines.specs.declared.Previous.TheVariants.{Class}
 use Rattle.lines.specs.declared.Boundary.{Boundary}
-use Rattle.lines.specs.declared.Boundary.TheVariants as Boundary
 use Rattle.lines.specs.declared.LineState.{LineState}
 use Rattle.lines.specs.declared.LineStep.{LineStep}
 

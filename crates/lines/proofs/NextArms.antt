@@ -22,7 +22,6 @@ use Rattle.lines.specs.Refusals.{bad_table, bad_state, judged}
 use Rattle.lines.specs.NextStep.{bad_record, bad_states, next_verdict, next_ruled, next_of}
 use Rattle.lines.specs.declared.Strength.{Strength}
 use Rattle.lines.specs.declared.Boundary.{Boundary}
-use Rattle.lines.specs.declared.Boundary.TheVariants as Boundary
 use Rattle.lines.specs.declared.LineState.{LineState}
 use Rattle.lines.specs.declared.BoundaryState.{BoundaryState}
 use Rattle.records.proofs.Verdicts.{passes, unrefused}

@@ -1,27 +1,25 @@
 -- How the run's check and the run come out. Assumes nothing.
-use Prim.Native.Nat.{ℕ, ◌+◌, ◌<◌, ◌≤◌}
+use Prim.Native.Nat.{ℕ, ◌<◌, ◌≤◌}
 use mathlib.Core.Path.{◌≡◌, refl, sym, ◌∙◌}
-use mathlib.Core.Bool.{Bool, true, false, not, ◌||◌}
+use mathlib.Core.Bool.{Bool, true, false}
 use mathlib.Core.List.{List, [], ◌∷◌, ◌++◌}
 use native.Mathlib.Omega.{arith}
-use lib.Dec.{eqb, leb, ltb}
 use lib.ListN.{length, drop}
 use lib.Seq.{drop_at}
-use borrow.Author.Tests.{lt-ltb, le-ltb, eqb-true, eq-eqb}
-use Rattle.basics.proofs.Tests.{neither}
+use borrow.Author.Tests.{lt-ltb, le-ltb}
 use Rattle.basics.specs.Columns.{cells}
 use Rattle.basics.proofs.Columns.{cells_length}
 use Rattle.classes.specs.WordBreak as WordBreak
 use Rattle.records.specs.Text.{cell}
-use Rattle.records.specs.Refusals.{refusal, refuse, over, most, too_long, uneven, outside, coded, mark, judge_lengths, judge_marked, judge_three, marked_verdict, word_verdict}
-use Rattle.records.specs.declared.Side.TheVariants.{Record, Neither}
+use Rattle.records.specs.Refusals.{refusal, refuse, over, judge_lengths, word_verdict}
+use Rattle.records.specs.declared.Side.TheVariants.{Neither}
 use Rattle.records.specs.declared.Refusal.{Refusal}
 use Rattle.records.specs.declared.Verdict.{Verdict}
 use Rattle.records.specs.declared.Verdict.TheVariants.{Accepted, Refused}
 use Rattle.words.specs.Run as Words
 use Rattle.lines.specs.LineBreak as LineBreak
 use Rattle.lines.specs.Refusals.{bad_table}
-use Rattle.lines.specs.Run.{answers, judge_record, check_verdict, run_verdict, run_cells}
+use Rattle.lines.specs.Run.{judge_record, check_verdict, run_verdict, run_cells}
 use Rattle.lines.specs.Inner.{laid_at}
 use Rattle.lines.specs.declared.Strength.{Strength}
 use Rattle.records.proofs.Marks.{second_is, three_second}

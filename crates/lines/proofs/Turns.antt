@@ -15,7 +15,6 @@ use Rattle.lines.specs.Run.{state_at, line_at, answer_at, answers}
 use Rattle.lines.specs.Inner.{merged, laid_at}
 use Rattle.lines.specs.declared.Strength.{Strength}
 use Rattle.lines.specs.declared.Boundary.{Boundary}
-use Rattle.lines.specs.declared.Boundary.TheVariants as Boundary
 use Rattle.lines.specs.declared.LineState.{LineState}
 
 -- one turn: class, answer, its number and the new state as the code has them

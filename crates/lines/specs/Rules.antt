@@ -9,7 +9,6 @@ use Rattle.lines.specs.declared.Strength.TheVariants.{Normal, BreakAll, KeepAll}
 use Rattle.lines.specs.declared.Previous.{Previous}
 use Rattle.lines.specs.declared.Previous.TheVariants.{Class, Nothing}
 use Rattle.lines.specs.declared.Boundary.{Boundary}
-use Rattle.lines.specs.declared.Boundary.TheVariants as Boundary
 use Rattle.lines.specs.declared.LineState.{LineState}
 
 -- the numbers of the Rust's `Boundary`

@@ -31,7 +31,7 @@ pub data Rule : Type 0 where
   while : Test → Rule → Rule
   -- a stop in it ends it alone
   scope : Rule → Rule
-  -- kinzi, a push and a step three times; that the Rust's three pushes and then three steps come to the same is `kinzi-as-rust` of the
+  -- kinzi, a push and a step three times; that the Rust's three pushes and then three steps come to the same is `kinzi_as_rust_lem` of the
   -- crate `myanmar`
   thrice : Shape → Rule
   -- a mark and a push, where the token behind may be wanted in the same cluster: where the test holds and there is no room for both, it

@@ -1,5 +1,5 @@
 -- The parse under way, and what one push, one note and one step make of it. Crate mode and whole mode differ in three places:
--- `filledAt`, what a step does at a cluster of 32, `passesEnd`, what becomes of the end of the text within a kinzi, and `lastRoom`,
+-- `filled_at`, what a step does at a cluster of 32, `passes_end`, what becomes of the end of the text within a kinzi, and `last_room`,
 -- whether a token that needs the next one behind it may be the 32nd.
 use Rattle.std.specs.Prelude.{ℕ, zero, suc, ◌+◌, ◌-◌, Bool, true, false, cond, List, eqb, ltb, length, set, get_or, replicate}
 use Rattle.classes.specs.declared.Shape.{Shape}

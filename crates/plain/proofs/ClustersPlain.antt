@@ -33,7 +33,7 @@ use Rattle.segment.specs.Runs.{calls_from}
 use Rattle.segment.proofs.Progress.{progress}
 use Rattle.segment.proofs.CallTurns.{call_within}
 use Rattle.segment.proofs.Coverage.{accepted_short}
-use Rattle.uax29.specs.Clusters.{controls, applies, decide, edge, any, GB1, before_in, before_of, boundary_at, places_from, boundaries}
+use Rattle.uax29.specs.Clusters.{controls, applies, decide, edge, any, GB1, before_in, boundary_at, places_from, boundaries}
 use Rattle.uax29.proofs.ClustersSides.{some_after}
 use Rattle.plain.specs.Clusters.{plain_kinds, extensions, plain_mark, plain_pair, plain_at, all_short, is_plain, starts_from, cluster_starts}
 use Rattle.plain.proofs.ClustersNeighbours.{Columns, Calm, calm_parts}

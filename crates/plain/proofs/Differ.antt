@@ -14,7 +14,7 @@ use Rattle.parse.specs.Shared.{emojis, emoji_turn, emoji_extension, emoji_mark, 
 use Rattle.simple.specs.Grammar.{cluster, start, control, syllable, leading, vowel, trailing, other, is_extension, extension, extend, combining}
 use Rattle.segment.specs.Calls.{grammar, called}
 use Rattle.segment.specs.Runs.{calls_from}
-use Rattle.uax29.specs.Clusters.{is, is_not, among, pictographic, anything, edge, any, one, next, many, pairs, GB1, GB2, GB3, GB4, GB5, GB6, GB7, GB8, GB9, GB9a, GB9b, GB11, GB12, GB13, GB999, applies, decide, before_in, before_of, items_from, boundary_at, places_from}
+use Rattle.uax29.specs.Clusters.{is, is_not, among, pictographic, anything, edge, any, one, next, many, pairs, GB1, GB2, GB3, GB4, GB5, GB6, GB7, GB8, GB9, GB9a, GB9b, GB11, GB12, GB13, GB999, applies, decide, before_in, items_from, boundary_at, places_from}
 use Rattle.words.specs.Rules.{flag_rules, number_rules, letter_rules, pair_rules, exit_of, leaves}
 use Rattle.words.specs.Run.{next_at, state_at, answer_at}
 use Rattle.uax29.specs.Words.{WB1, WB2, WB3, WB3a, WB3b, WB3c, WB3d, WB4, WB5, WB6, WB7, WB7a, WB7b, WB7c, WB8, WB9, WB10, WB11, WB12, WB13, WB13a, WB13b, WB15, WB16, WB999, kept, passed}

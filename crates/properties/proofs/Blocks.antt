@@ -22,7 +22,6 @@ use Rattle.records.proofs.Judged.{alone}
 use Rattle.records.proofs.Verdicts.{never, each_over}
 use Rattle.properties.specs.declared.File.{File}
 use Rattle.properties.specs.declared.Ruling.{Ruling}
-use Rattle.properties.specs.declared.Ruling.TheVariants as Ruling
 use Rattle.properties.specs.Lines.{leading, ending, untailed, trimmed, without_CR, body_of, line_of}
 use Rattle.properties.specs.Rulings.{ruling_of}
 use Rattle.properties.specs.Ranges.{Ranges, ranges}

@@ -11,16 +11,12 @@ use lib.ListN.{length, get_or, take, drop, length-take, length-drop}
 use Rattle.basics.specs.Sets.{any}
 use Rattle.basics.proofs.Tests.{if_intro, neither}
 use Rattle.cases.specs.declared.numbers.Number.{Number}
-use Rattle.cases.specs.declared.numbers.Number.TheVariants as Number
 use Rattle.cases.specs.Numbers.{number_of}
 use Rattle.cases.specs.Spans.{before, up_to, after}
 use Rattle.properties.specs.declared.File.{File}
 use Rattle.properties.specs.declared.Value.{Value}
-use Rattle.properties.specs.declared.Value.TheVariants as Value
 use Rattle.properties.specs.declared.Line.{Line}
-use Rattle.properties.specs.declared.Line.TheVariants as Line
 use Rattle.properties.specs.declared.Ruling.{Ruling}
-use Rattle.properties.specs.declared.Ruling.TheVariants as Ruling
 use Rattle.properties.specs.Names.{code_of}
 use Rattle.properties.specs.Lines.{leading, ending, untailed, trimmed, without_CR, body_of, scalars_of, value_of, is_between, no_value, hex, first_of, last_of, range_of, line_of, value_in}
 use Rattle.properties.specs.Rulings.{ruled, ruling_of}

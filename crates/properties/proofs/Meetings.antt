@@ -11,7 +11,6 @@ use Rattle.records.specs.Text.{cell}
 use Rattle.records.specs.declared.Verdict.{Verdict}
 use Rattle.records.specs.declared.Verdict.TheVariants.{Accepted}
 use Rattle.properties.specs.declared.Ruling.{Ruling}
-use Rattle.properties.specs.declared.Ruling.TheVariants as Ruling
 use Rattle.properties.specs.Reading.{share, refused_at}
 use Rattle.properties.specs.Inner.{some, met_in, met_by, judge_met}
 

@@ -8,7 +8,6 @@ use native.Mathlib.Omega.{arith}
 use lib.ListN.{length, set}
 use lib.Seq.{get_or-set_same}
 use Rattle.properties.specs.declared.Ruling.{Ruling}
-use Rattle.properties.specs.declared.Ruling.TheVariants as Ruling
 use Rattle.properties.specs.Reading.{holding, held_from}
 use Rattle.properties.specs.Inner.{NotedBy}
 use Rattle.properties.proofs.Merges.{held_kept}

@@ -17,7 +17,6 @@ use Rattle.records.specs.declared.Verdict.TheVariants.{Accepted, Refused}
 use Rattle.records.proofs.Judged.{over_same}
 use Rattle.properties.specs.declared.File.{File}
 use Rattle.properties.specs.declared.Ruling.{Ruling}
-use Rattle.properties.specs.declared.Ruling.TheVariants as Ruling
 use Rattle.properties.specs.declared.verdicts.Collected.{Collected}
 use Rattle.properties.specs.Rulings.{ruling_of}
 use Rattle.properties.specs.Ranges.{Ranges, ranges}

@@ -12,12 +12,11 @@ use lib.ListN.{length, length-append}
 use borrow.Author.Tests.{leb-true, leb-false, ltb-false, le-ltb}
 use Rattle.basics.proofs.Tests.{if_intro}
 use Rattle.cases.specs.declared.numbers.Number.{Number}
-use Rattle.cases.specs.declared.numbers.Number.TheVariants as Number
 use Rattle.cases.specs.Spans.{span}
 use Rattle.records.specs.Text.{cell}
 use Rattle.records.specs.Refusals.{refuse, ◌⊳◌, over}
 use Rattle.records.specs.declared.Side.TheVariants.{Neither}
-use Rattle.records.specs.declared.Verdict.TheVariants.{Accepted, Refused}
+use Rattle.records.specs.declared.Verdict.TheVariants.{Accepted}
 use Rattle.records.proofs.Unique.{unique}
 use Rattle.records.proofs.Verdicts.{unrefused, passes, over_each, each_over}
 use Rattle.properties.specs.declared.File.{File}
@@ -25,9 +24,7 @@ use Rattle.properties.specs.declared.Filled.{Filled}
 use Rattle.properties.specs.declared.Value.{Value}
 use Rattle.properties.specs.declared.Value.TheVariants.{Found, Unknown}
 use Rattle.properties.specs.declared.Line.{Line}
-use Rattle.properties.specs.declared.Line.TheVariants as Line
 use Rattle.properties.specs.declared.Ruling.{Ruling}
-use Rattle.properties.specs.declared.Ruling.TheVariants as Ruling
 use Rattle.properties.specs.Names.{code_of}
 use Rattle.properties.specs.Lines.{body_of, scalars_of, value_of, no_value, first_of, last_of, range_of, line_of, value_in}
 use Rattle.properties.specs.Rulings.{ruled, ruling_of}

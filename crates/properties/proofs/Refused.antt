@@ -22,7 +22,6 @@ use Rattle.properties.specs.declared.File.{File}
 use Rattle.properties.specs.declared.Value.{Value}
 use Rattle.properties.specs.declared.Value.TheVariants.{Found, Unknown}
 use Rattle.properties.specs.declared.Line.{Line}
-use Rattle.properties.specs.declared.Line.TheVariants as Line
 use Rattle.properties.specs.Names.{code_of}
 use Rattle.properties.specs.Lines.{line_of, value_in}
 use Rattle.properties.specs.Rulings.{ruled, ruling_of}

@@ -7,7 +7,6 @@ use Rattle.properties.specs.declared.File.{File}
 use Rattle.properties.specs.declared.Value.{Value}
 use Rattle.properties.specs.declared.Value.TheVariants.{Found}
 use Rattle.properties.specs.declared.Line.{Line}
-use Rattle.properties.specs.declared.Line.TheVariants as Line
 use Rattle.properties.specs.declared.Ruling.{Ruling}
 use Rattle.properties.specs.declared.Ruling.TheVariants.{Nothing, Refused, Range}
 use Rattle.properties.specs.Names.{code_of}

@@ -20,7 +20,6 @@ use Rattle.records.proofs.Over.{Rest, rest_all, rest_refused, rest_next}
 use Rattle.records.proofs.Verdicts.{never, each_over}
 use Rattle.properties.specs.declared.File.{File}
 use Rattle.properties.specs.declared.Ruling.{Ruling}
-use Rattle.properties.specs.declared.Ruling.TheVariants as Ruling
 use Rattle.properties.specs.Lines.{leading, ending, untailed, trimmed, without_CR, body_of, line_of}
 use Rattle.properties.specs.Rulings.{ruling_of}
 use Rattle.properties.specs.Reading.{held_from, said_by, said, share, met, line_count}

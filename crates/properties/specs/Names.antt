@@ -1,7 +1,6 @@
 -- "The reader needs the value names of both files with their codes."
 use Rattle.std.specs.Prelude.{ℕ, cond, List, [], ◌∷◌}
 use Prim.Native.Char.{code}
-use Prim.Native.String as String
 use Prim.Native.String.{String}
 use Rattle.classes.specs.ClusterBreak as ClusterBreak
 use Rattle.classes.specs.WordBreak as WordBreak

@@ -11,7 +11,6 @@ use Rattle.records.specs.declared.Verdict.TheVariants.{Accepted, Refused}
 use Rattle.properties.specs.declared.File.{File}
 use Rattle.properties.specs.declared.Filled.{Filled}
 use Rattle.properties.specs.declared.Ruling.{Ruling}
-use Rattle.properties.specs.declared.Ruling.TheVariants as Ruling
 use Rattle.properties.specs.Rulings.{ruling_of}
 use Rattle.properties.specs.Ranges.{Ranges, ranges}
 

@@ -1,5 +1,5 @@
 -- A verdict by a table of refusals: what the lines give one after the other is the first offence in testing order. One law for every
--- call that refuses, `by-table`. Assumes nothing.
+-- call that refuses, `by_table`. Assumes nothing.
 use Prim.Native.Nat.{ℕ, zero, suc, ◌+◌, ◌<◌, ◌≤◌}
 use mathlib.Core.Path.{◌≡◌, refl, sym, ◌∙◌, ap, subst}
 use mathlib.Core.Bool.{Bool, true, false, cond, ◌&&◌, ◌||◌, and-false, or-true, or-false, or_assoc, false≢true}

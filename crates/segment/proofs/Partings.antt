@@ -1,5 +1,5 @@
 -- The loop over split records, as its code has it: its spot is its place in the stream. Assumes nothing.
-use Prim.Native.Nat.{ℕ, ◌+◌, ◌-◌, ◌<◌, ◌≤◌}
+use Prim.Native.Nat.{ℕ, ◌+◌, ◌-◌, ◌<◌}
 use mathlib.Core.Path.{◌≡◌, refl, sym, ◌∙◌, ap, subst}
 use mathlib.Core.Bool.{Bool, true, false, cond, ◌&&◌}
 use mathlib.Core.List.{List, [], ◌∷◌}
@@ -8,7 +8,7 @@ use native.Mathlib.Numerals.{add-one}
 use lib.Dec.{eqb}
 use lib.ListN.{length, get_or, drop, length-drop}
 use lib.Seq.{drop-cons}
-use borrow.Author.Tests.{eqb-true, eqb-false, ne_eqb}
+use borrow.Author.Tests.{eqb-true, eqb-false}
 use Rattle.basics.proofs.Tests.{by_test}
 use Rattle.basics.specs.Sets.{member}
 use Rattle.classes.specs.Scalar.{khmer_signs}
@@ -26,7 +26,7 @@ use Rattle.stream.specs.Inner.{rest, rest_at, Takes}
 use Rattle.stream.proofs.Stream.{rest_all}
 use Rattle.stream.proofs.Taking.{rest_whole, spot_inside}
 use Rattle.segment.specs.declared.going.Going.{Going}
-use Rattle.segment.specs.Going.{started, done_by, back_of, stop_of, refilled, overed, noted, written, turned}
+use Rattle.segment.specs.Going.{started, done_by, back_of, refilled, overed, noted, written, turned}
 use Rattle.tables.specs.Symbols.{Regular}
 use Rattle.segment.specs.declared.going.Stand.{Stand}
 use Rattle.segment.specs.Inner.{Roomy}

@@ -12,7 +12,7 @@ use Rattle.records.specs.declared.Verdict.TheVariants.{Accepted}
 use Rattle.stream.specs.Stream.{stream_of, most_tokens}
 use Rattle.parse.specs.declared.Parse.{Parse}
 use Rattle.parse.specs.declared.Pushed.{Pushed}
-use Rattle.segment.specs.Runs.{calls_at, calls_of, characters, Ran}
+use Rattle.segment.specs.Runs.{calls_at, calls_of, Ran}
 use Rattle.segment.specs.Inner.{Roomy}
 use Rattle.segment.specs.Seen.{seen_by, Direct}
 use Rattle.segment.specs.Standing.{Column, Running, Stood, Ready}

@@ -19,9 +19,8 @@ use Rattle.records.specs.declared.Parser.TheVariants.{Simple, Myanmar, Complex, 
 use Rattle.parse.specs.declared.Parse.{Parse}
 use Rattle.parse.specs.declared.Flow.TheVariants.{Stop}
 use Rattle.parse.specs.State.{token_at, last_room, going, with_flow, begin}
-use Rattle.parse.specs.Rule.{Rule, Test, skip, run, crowded, is, next_is, is_emoji}
-use Rattle.simple.specs.Grammar as Simple-rules
-use Rattle.simple.proofs.Moved.{parted, ends_here}
+use Rattle.parse.specs.Rule.{Rule, Test, skip, run, is, next_is, is_emoji}
+use Rattle.simple.proofs.Moved.{ends_here}
 use Rattle.segment.specs.Calls.{grammar, joins}
 use Rattle.segment.specs.Inner.{Roomy}
 use Rattle.segment.specs.Going.{newline_at, last_cell, crowded_at}

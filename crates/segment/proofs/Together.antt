@@ -1,7 +1,7 @@
 -- CR and LF in whole mode, over the public answers. Assumes nothing.
-use Prim.Native.Nat.{ℕ, ◌+◌, ◌<◌, ◌≤◌}
+use Prim.Native.Nat.{ℕ, ◌+◌}
 use mathlib.Core.Path.{◌≡◌, refl, sym, ◌∙◌, ap}
-use mathlib.Core.Bool.{true, false}
+use mathlib.Core.Bool.{false}
 use mathlib.Core.List.{List}
 use native.Mathlib.Omega.{arith}
 use lib.Dec.{eqb, ltb}
@@ -12,18 +12,15 @@ use Rattle.classes.specs.ClusterBreak as Break
 use Rattle.classes.specs.declared.Mode.TheVariants.{Whole}
 use Rattle.token.specs.Token.{kind_of, break_of}
 use Rattle.records.specs.Text.{Text}
-use Rattle.records.specs.Refusals.{verdict}
 use Rattle.records.specs.Sound.{Sound}
 use Rattle.records.specs.declared.Parser.TheVariants.{Simple}
-use Rattle.records.specs.declared.Verdict.TheVariants.{Accepted}
 use Rattle.records.proofs.Accepted.{accepted_sound}
 use Rattle.stream.specs.Stream.{stream_of}
 use Rattle.parse.specs.declared.Place.{Place}
-use Rattle.parse.specs.State.{token_at, place_of}
+use Rattle.parse.specs.State.{token_at}
 use Rattle.simple.proofs.Together.{pair_at, together}
 use Rattle.tables.specs.Symbols.{simple_regular}
 use Rattle.segment.specs.declared.Segmenter.{Segmenter}
-use Rattle.segment.specs.declared.Answer.{Answer}
 use Rattle.segment.specs.declared.What.TheVariants.{Found}
 use Rattle.segment.specs.Calls.{grammar, called, refused, end, found, next_of}
 use Rattle.segment.specs.Seen.{seen_by}

@@ -6,7 +6,6 @@ use Rattle.records.specs.Text.{Text}
 use Rattle.records.specs.Offences.{Line, line}
 use Rattle.records.specs.declared.Parser.{Parser}
 use Rattle.records.specs.declared.Verdict.{Verdict}
-use Rattle.records.specs.declared.Verdict.TheVariants as Verdict
 use Rattle.stream.specs.Stream.{stream_of}
 use Rattle.segment.specs.declared.Segmenter.{Segmenter}
 use Rattle.segment.specs.declared.Answer.{Answer}

@@ -1,6 +1,6 @@
 -- What only private contracts need. A loop over the records of the complex parser, where some are split: a token is read where its record
 -- or part stands.
-use Rattle.std.specs.Prelude.{ℕ, ◌+◌, ◌≤◌, ◌≡◌, Bool, true, false, cond, ◌&&◌, List, eqb, length}
+use Rattle.std.specs.Prelude.{ℕ, ◌+◌, ◌≡◌, Bool, true, false, cond, ◌&&◌, List, eqb, length}
 use Rattle.basics.specs.Sets.{member}
 use Rattle.classes.specs.Scalar.{khmer_signs}
 use Rattle.classes.specs.declared.Mode.{Mode}
@@ -13,7 +13,7 @@ use Rattle.stream.specs.declared.spots.Spot.{Spot}
 use Rattle.stream.specs.declared.spots.Taken.{Taken}
 use Rattle.stream.specs.Stream.{stream_of, split_tokens}
 use Rattle.stream.specs.Inner.{Takes}
-use Rattle.tables.specs.Symbols.{table_of, Regular}
+use Rattle.tables.specs.Symbols.{Regular}
 use Rattle.segment.specs.declared.going.Going.{Going}
 use Rattle.segment.specs.Going.{done_by}
 use Rattle.segment.specs.Inner.{Roomy}

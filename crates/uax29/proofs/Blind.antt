@@ -1,11 +1,10 @@
 -- The rules of 15.0 do not ask for a conjunct: they say the same of characters without one. Assumes nothing.
 use Prim.Native.Nat.{ℕ, zero, suc, ◌+◌, ◌-◌}
-use mathlib.Core.Path.{◌≡◌, refl, sym, ◌∙◌, ap}
-use mathlib.Core.Bool.{Bool, cond, not, ◌&&◌, ◌||◌}
+use mathlib.Core.Path.{◌≡◌, refl, sym, ap}
+use mathlib.Core.Bool.{Bool, cond, not}
 use mathlib.Core.List.{List, [], ◌∷◌, map}
 use lib.ListN.{length}
 use Rattle.classes.specs.ClusterBreak.{L, «V», T, LV, LVT, CR, LF, RI, EX, SM, ZWJ, PP}
-use Rattle.records.specs.Text.{cell}
 use Rattle.uax29.specs.Rules.{Item, Test, Side, Rule, is, is_not, among, pictographic, anything, edge, any, one, next, many, pairs, applies, decide, item_in, before_in, before_of, items_from, after_in, after_of}
 use Rattle.uax29.specs.Clusters.{controls, rules, GB1, GB2, GB3, GB4, GB5, GB6, GB7, GB8, GB9, GB9a, GB9b, GB11, GB12, GB13, GB999}
 

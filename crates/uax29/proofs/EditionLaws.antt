@@ -4,7 +4,7 @@ use mathlib.Core.Path.{◌≡◌, refl, sym, ◌∙◌, ap}
 use mathlib.Core.Bool.{Bool, true, false, cond, not, ◌&&◌, ◌||◌, and-false, and-true, or-false, false≢true}
 use mathlib.Core.List.{List, [], ◌∷◌, ◌++◌}
 use native.Mathlib.Omega.{arith}
-use lib.Dec.{eqb, ltb}
+use lib.Dec.{eqb}
 use lib.ListN.{length, drop, set}
 use lib.Seq.{drop_at}
 use borrow.Author.Tests.{eq-eqb, ne_eqb, eqb-true}
@@ -24,18 +24,17 @@ use Rattle.records.proofs.Verdicts.{unrefused, passes}
 use Rattle.records.proofs.Written.{ran_refused, ran_whole, ran_checked, ran_long}
 use Rattle.uax29.specs.Conjunct.{Consonant}
 use Rattle.uax29.specs.Conjunct as Conjunct
-use Rattle.uax29.specs.Rules.{Item, Rule, ◌⨯◌, anything, edge, any, among, one, next, many, applies, decide, item_in, before_in, items_from, after_in}
+use Rattle.uax29.specs.Rules.{Rule, ◌⨯◌, anything, edge, any, among, one, next, many, applies, decide, item_in, before_in, items_from, after_in}
 use Rattle.uax29.specs.Clusters.{controls, is, pictographic, boundary_at, GB1, GB2, GB3, GB4, GB5, GB6, GB7, GB8, GB9, GB9a, GB9b, GB11, GB12, GB999}
 use Rattle.uax29.specs.Graphemes.{start_at, grapheme_check}
-use Rattle.uax29.specs.GraphemeStep.{no_class, kept_rules, near, starts, item, advance, bad_state}
-use Rattle.uax29.specs.Editions.{joining, conjunct_is, begun, GB9c, conjoined, editions, boundary_in}
+use Rattle.uax29.specs.GraphemeStep.{no_class, kept_rules, near, starts, item, bad_state}
+use Rattle.uax29.specs.Editions.{joining, conjunct_is, begun, GB9c, conjoined}
 use Rattle.uax29.specs.EditionRuns.{start_in, unknown, edition_check, edition_verdict, edition_cells}
 use Rattle.uax29.specs.EditionStep.{kept_in, starts_in, item_of, bad_link, bad_record_in, bad_state_in, advance_in, step_verdict_in, step_in}
 use Rattle.uax29.specs.Conjoined.{begun_at, linked_at, conjoins, conjoined_at, taken_at}
 use Rattle.uax29.specs.declared.editions.EditionState.{EditionState}
 use Rattle.uax29.specs.declared.graphemes.GraphemeState.{GraphemeState}
 use Rattle.uax29.proofs.EditionRules.{boundary_other, boundary_151, inserted}
-use Rattle.uax29.proofs.Links.{linked_begun}
 
 -- # GB9c over the columns
 

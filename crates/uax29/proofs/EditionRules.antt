@@ -1,5 +1,5 @@
 -- What the two editions share, and where they differ. Assumes nothing.
-use Prim.Native.Nat.{ℕ, zero, suc, ◌+◌, ◌-◌}
+use Prim.Native.Nat.{ℕ, zero, suc, ◌-◌}
 use mathlib.Core.Path.{◌≡◌, refl, sym, ◌∙◌, ap}
 use mathlib.Core.Bool.{Bool, true, false, cond, not, ◌&&◌, ◌||◌, and-false, and-true, false≢true}
 use mathlib.Core.List.{List, [], ◌∷◌}
@@ -8,7 +8,7 @@ use lib.ListN.{length}
 use Rattle.basics.proofs.Tests.{both}
 use Rattle.records.specs.Text.{cell}
 use Rattle.uax29.specs.Conjunct.{Consonant, Linker}
-use Rattle.uax29.specs.Rules.{Item, Rule, edge, any, one, next, many, applies, decide, before_in, before_of, items_from, after_in, after_of}
+use Rattle.uax29.specs.Rules.{Item, Rule, edge, any, one, next, many, applies, decide, before_in, items_from, after_in}
 use Rattle.uax29.specs.Clusters.{rules, boundary_at, GB1, GB2, GB3, GB4, GB5, GB6, GB7, GB8, GB9, GB9a, GB9b, GB11, GB12, GB13, GB999}
 use Rattle.uax29.specs.Editions.{conjunct_is, joining, begun, GB9c, conjoined, rules151, rules_of, boundary_in}
 use Rattle.uax29.proofs.Blind.{decides_alike}

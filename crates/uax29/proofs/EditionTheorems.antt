@@ -1,7 +1,7 @@
 -- What is true of every run of clusters by an edition (SCOPE 12.6), and of its step. Assumes nothing.
 use Prim.Native.Nat.{ℕ, zero, suc, ◌+◌, ◌-◌, ◌<◌, ◌≤◌}
 use mathlib.Core.Path.{◌≡◌, refl, sym, ◌∙◌, ap}
-use mathlib.Core.Bool.{Bool, true, false, cond, not, ◌&&◌, ◌||◌, and-false, and-true}
+use mathlib.Core.Bool.{Bool, true, false, cond, not, ◌&&◌, ◌||◌, and-false}
 use mathlib.Core.List.{List, [], ◌∷◌}
 use native.Mathlib.Omega.{arith}
 use native.Mathlib.Numerals.{add-one}
@@ -9,7 +9,6 @@ use lib.Dec.{eqb, ltb, leb}
 use lib.ListN.{length}
 use borrow.Author.Tests.{eqb-true, eqb-false, ne_eqb, leb-false}
 use Rattle.basics.specs.Columns.{cells}
-use Rattle.basics.specs.Sets.{member}
 use Rattle.basics.proofs.Columns.{cells_same}
 use Rattle.basics.proofs.Tests.{by_test}
 use Rattle.classes.specs.ClusterBreak.{XX, CN, EX, ZWJ, SM}
@@ -30,19 +29,19 @@ use Rattle.records.proofs.Verdicts.{unrefused, passes}
 use Rattle.records.proofs.Written as Written
 use Rattle.uax29.specs.Conjunct.{Consonant, Linker, Extend, None}
 use Rattle.uax29.specs.Conjunct as Conjunct
-use Rattle.uax29.specs.Rules.{Item, is, is_not, among, pictographic, anything, edge, any, one, next, many, pairs, applies, decide, item_in, before_in, items_from, after_in}
-use Rattle.uax29.specs.Clusters.{rules, boundary_at, GB1, GB2, GB3, GB4, GB5, GB6, GB7, GB8, GB9, GB9a, GB9b, GB11, GB12, GB13, GB999}
+use Rattle.uax29.specs.Rules.{Item, is, is_not, among, pictographic, anything, edge, any, one, next, many, pairs, applies, decide, item_in, before_in, items_from}
+use Rattle.uax29.specs.Clusters.{GB1, GB2, GB3, GB4, GB5, GB6, GB7, GB8, GB9, GB9a, GB9b, GB11, GB12, GB13, GB999}
 use Rattle.uax29.specs.Graphemes.{start_at, grapheme_check, grapheme_verdict, grapheme_cells}
 use Rattle.uax29.specs.GraphemeStep as Graphemes
 use Rattle.uax29.specs.GraphemeStep.{no_class, summary, advance, starts, near, kept_rules}
-use Rattle.uax29.specs.Editions.{joining, conjunct_is, begun, GB9c, conjoined, rules_of, boundary_in}
+use Rattle.uax29.specs.Editions.{joining, conjunct_is, begun, GB9c, rules_of, boundary_in}
 use Rattle.uax29.specs.EditionRuns.{start_in, unknown, edition_check, edition_verdict, edition_cells}
-use Rattle.uax29.specs.EditionStep.{start_state, summary_in, link_after, advance_in, starts_in, kept_in, item_of, bad_link, bad_record_in, bad_state_in, step_verdict_in, step_under_in, step_in}
+use Rattle.uax29.specs.EditionStep.{start_state, summary_in, link_after, advance_in, starts_in, item_of, bad_link, bad_record_in, bad_state_in, step_verdict_in, step_under_in, step_in}
 use Rattle.uax29.specs.Conjoined.{linked_at, conjoins, conjoined_at}
 use Rattle.uax29.specs.EditionRefusals.{edition_table, edition_step_table}
 use Rattle.uax29.specs.declared.editions.EditionState.{EditionState}
 use Rattle.uax29.specs.declared.editions.EditionStep.{EditionStep}
-use Rattle.uax29.proofs.EditionRules.{none_new, none_asked, begun_next, linked_next}
+use Rattle.uax29.proofs.EditionRules.{none_new, none_asked}
 use Rattle.uax29.proofs.EditionLaws.{graphemes_accepted, begun_column, linked_column, start_other, start_151, answer_other, answer_151}
 use Rattle.uax29.proofs.GraphemeSummary.{summary_none, summary_more, state_at, start_is}
 use Rattle.uax29.proofs.GraphemeStanding.{states_stand}

@@ -19,7 +19,7 @@ use Rattle.records.proofs.Marks.{fine}
 use Rattle.records.proofs.Tables.{first_of, by_table}
 use Rattle.records.proofs.Unique.{unique}
 use Rattle.records.proofs.Written as Written
-use Rattle.uax29.specs.Clusters.{is, is_not, among, pictographic, anything, edge, any, one, next, many, pairs, applies, decide, item_at, before_in, before_of, items_from, boundary_at, GB1, GB2, GB3, GB4, GB5, GB6, GB7, GB8, GB9, GB9a, GB9b, GB11, GB12, GB13, GB999}
+use Rattle.uax29.specs.Clusters.{is, is_not, among, pictographic, anything, edge, any, one, next, many, pairs, applies, decide, item_at, before_in, items_from, boundary_at, GB1, GB2, GB3, GB4, GB5, GB6, GB7, GB8, GB9, GB9a, GB9b, GB11, GB12, GB13, GB999}
 use Rattle.uax29.specs.Graphemes.{start_at, grapheme_check, grapheme_verdict, grapheme_cells}
 use Rattle.uax29.specs.GraphemeStep.{start_state, summary, advance, kept_rules, near, starts, item, bad_record, bad_state, step_verdict, step_under, step_of}
 use Rattle.uax29.specs.GraphemeRefusals.{step_table}

@@ -16,7 +16,7 @@ use Rattle.classes.specs.ClusterBreak.{XX, RI, ZWJ, len}
 use Rattle.records.specs.Text.{cell}
 use Rattle.records.specs.declared.Verdict.TheVariants.{Accepted}
 use Rattle.records.proofs.Marks.{fine_class, fine_mark}
-use Rattle.uax29.specs.Clusters.{Item, is, is_not, among, pictographic, anything, edge, any, one, next, many, pairs, applies, decide, before_in, before_of, GB1, GB2, GB3, GB4, GB5, GB6, GB7, GB8, GB9, GB9a, GB9b, GB11, GB12, GB13, GB999}
+use Rattle.uax29.specs.Clusters.{Item, is, is_not, among, pictographic, anything, edge, any, one, next, many, pairs, applies, decide, before_in, GB1, GB2, GB3, GB4, GB5, GB6, GB7, GB8, GB9, GB9a, GB9b, GB11, GB12, GB13, GB999}
 use Rattle.uax29.specs.Graphemes.{start_at, grapheme_check}
 use Rattle.uax29.specs.GraphemeStep.{no_class, summary, advance, kept_rules, near, starts, item, bad_state}
 use Rattle.uax29.specs.GraphemeRows.{cell_of, answer_in, row_in}

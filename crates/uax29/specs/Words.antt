@@ -1,6 +1,6 @@
 -- UAX #29 of Unicode 15.0, section 4.1.1: the rules WB1 to WB999, each under the annex's own line and in its order, so that a
 -- reviewer reads them against the annex. Written from that document, and not from the word machine.
-use Rattle.std.specs.Prelude.{ℕ, zero, suc, min, List, ◌++◌, [], ◌∷◌, map, Bool, false, cond, not, ◌&&◌, length, drop}
+use Rattle.std.specs.Prelude.{ℕ, min, List, ◌++◌, [], ◌∷◌, map, Bool, false, cond, not, ◌&&◌, length, drop}
 use Rattle.basics.specs.Columns.{cells}
 use Rattle.classes.specs.WordBreak.{CR, LF, ZWJ, WSegSpace, HL, NU, SQ, DQ, KA, EX, RI, NL, Extend, FO, ALetter, ML, MidNumLet, MN}
 use Rattle.uax29.specs.Rules.{Item, is, is_not, among, pictographic, Rule, anything, edge, any, one, next, pairs, ◌÷◌, ◌⨯◌, decide, before_of, after_of}

@@ -1,7 +1,6 @@
 use Rattle.records.specs.Text.{text_in}
 use Rattle.exports.specs.Calls.{check_verdict}
 use Rattle.exports.proofs.Refusals.{three_tight, three_told}
-use borrow.Author.Rules.{rules}
 use Rattle.exports.proofs.ezh_check.Goals as goal
 
 pub returns-then-results-lt-CHECK_ROOM : goal.returns-then-results-lt-CHECK_ROOM

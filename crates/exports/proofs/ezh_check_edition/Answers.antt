@@ -1,6 +1,5 @@
 use Rattle.exports.specs.Editions.{check_edition_verdict}
 use Rattle.exports.proofs.Refusals.{three_tight, three_told}
-use borrow.Author.Rules.{rules}
 use Rattle.exports.proofs.ezh_check_edition.Goals as goal
 
 pub returns-then-results-lt-CHECK_ROOM : goal.returns-then-results-lt-CHECK_ROOM

@@ -1,6 +1,5 @@
 use Rattle.exports.specs.Graphemes.{check_graphemes_verdict}
 use Rattle.exports.proofs.Refusals.{three_tight, three_told}
-use borrow.Author.Rules.{rules}
 use Rattle.exports.proofs.ezh_check_graphemes.Goals as goal
 
 pub returns-then-results-lt-CHECK_ROOM : goal.returns-then-results-lt-CHECK_ROOM

@@ -1,6 +1,5 @@
 use Rattle.exports.proofs.PropertyLaws.{lookup_tight, lookup_told}
 use Rattle.properties.specs.Ranges.{ranges}
-use borrow.Author.Rules.{rules}
 use Rattle.exports.proofs.ezh_lookup.Goals as goal
 
 pub returns-then-results-lt-CHECK_ROOM : goal.returns-then-results-lt-CHECK_ROOM

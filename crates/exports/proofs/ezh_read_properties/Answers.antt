@@ -1,7 +1,6 @@
 use Rattle.exports.proofs.PropertyLaws.{read_tight, read_outside, read_listed}
 use Rattle.properties.specs.Ranges.{ranges}
 use mathlib.Core.Path.{refl}
-use borrow.Author.Rules.{rules}
 use Rattle.exports.proofs.ezh_read_properties.Goals as goal
 
 pub returns-then-results-lt-READ_ROOM : goal.returns-then-results-lt-READ_ROOM

@@ -1,6 +1,5 @@
 use Rattle.records.specs.Text.{text_in}
 use Rattle.exports.proofs.Runs.{run_tight, run_unknown, run_known}
-use borrow.Author.Rules.{rules}
 use Rattle.exports.proofs.ezh_run.Goals as goal
 
 pub returns-then-results-lt-RUN_ROOM : goal.returns-then-results-lt-RUN_ROOM

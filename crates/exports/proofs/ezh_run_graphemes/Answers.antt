@@ -1,6 +1,5 @@
 use Rattle.exports.proofs.Runs.{answered_tight, answered_told}
 use mathlib.Core.Path.{refl}
-use borrow.Author.Rules.{rules}
 use Rattle.exports.proofs.ezh_run_graphemes.Goals as goal
 
 pub returns-then-results-lt-CHECK_ROOM : goal.returns-then-results-lt-CHECK_ROOM

@@ -1,7 +1,6 @@
 use Rattle.exports.proofs.LineLaws.{lines_tight, lines_outside, lines_listed}
 use mathlib.Core.Path.{ap}
 use Rattle.records.specs.declared.Verdict.TheVariants.{Refused}
-use borrow.Author.Rules.{rules}
 use Rattle.exports.proofs.ezh_run_lines.Goals as goal
 
 pub returns-then-results-lt-CHECK_ROOM : goal.returns-then-results-lt-CHECK_ROOM

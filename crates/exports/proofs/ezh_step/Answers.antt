@@ -1,6 +1,5 @@
 use Rattle.records.specs.Text.{text_in}
 use Rattle.exports.proofs.StepLaws.{step_fits, step_tight, step_told}
-use borrow.Author.Rules.{rules}
 use Rattle.exports.proofs.ezh_step.Goals as goal
 
 pub returns-then-results-lt-STEP_ROOM : goal.returns-then-results-lt-STEP_ROOM

@@ -1,7 +1,6 @@
 use Rattle.exports.proofs.StateLaws.{step_tight, step_roomy}
 use Rattle.exports.specs.Editions.{edition_judged, edition_after}
 use mathlib.Core.Path.{refl}
-use borrow.Author.Rules.{rules}
 use Rattle.exports.proofs.ezh_step_edition.Goals as goal
 
 pub returns-then-results-lt-EDITION_ROOM : goal.returns-then-results-lt-EDITION_ROOM

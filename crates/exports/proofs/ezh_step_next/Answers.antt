@@ -1,7 +1,6 @@
 use Rattle.exports.proofs.StateLaws.{step_tight, step_roomy}
 use Rattle.exports.specs.Lines.{next_judged, next_after}
 use mathlib.Core.Path.{refl}
-use borrow.Author.Rules.{rules}
 use Rattle.exports.proofs.ezh_step_next.Goals as goal
 
 pub returns-then-results-lt-NEXT_ROOM : goal.returns-then-results-lt-NEXT_ROOM

@@ -1,7 +1,6 @@
 use Rattle.exports.proofs.StateLaws.{step_tight, step_roomy}
 use Rattle.exports.specs.Words.{word_judged, word_after}
 use mathlib.Core.Path.{refl}
-use borrow.Author.Rules.{rules}
 use Rattle.exports.proofs.ezh_step_word.Goals as goal
 
 pub returns-then-results-lt-WORD_ROOM : goal.returns-then-results-lt-WORD_ROOM

@@ -1,5 +1,4 @@
 use Rattle.lines.proofs.RunLaws.{ran_refused, ran_short, ran_whole}
-use borrow.Author.Rules.{rules}
 use Rattle.lines.proofs.run.Goals as goal
 
 pub returns-in_default : goal.returns-in_default

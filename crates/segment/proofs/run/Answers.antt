@@ -1,5 +1,4 @@
 use Rattle.records.specs.Text.{text_in}
-use borrow.Author.Rules.{rules}
 use Rattle.segment.proofs.run.Goals as goal
 
 pub returns : goal.returns

@@ -1,7 +1,6 @@
 use mathlib.Core.Path.{sym, ◌∙◌}
 use Rattle.records.proofs.Accepted.{accepted_sound}
 use Rattle.segment.proofs.Outcomes.{ran_accepted, ran_refused}
-use borrow.Author.Rules.{rules}
 use Rattle.segment.proofs.run_in.Goals as goal
 
 pub run_accepted-requires : goal.run_accepted-requires

@@ -1,5 +1,4 @@
 use Rattle.spans.proofs.Steps.{some_spannable, spanned_some, spanned_none}
-use borrow.Author.Rules.{rules}
 use Rattle.spans.proofs.next_in.Goals as goal
 
 pub returns-then-answer-eq0 : goal.returns-then-answer-eq0

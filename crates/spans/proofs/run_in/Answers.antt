@@ -1,5 +1,4 @@
 use Rattle.spans.proofs.Outcomes.{ran_crowded, ran_none, ran_roomy, ran_filled}
-use borrow.Author.Rules.{rules}
 use Rattle.spans.proofs.run_in.Goals as goal
 
 pub returns-then-room-count_of : goal.returns-then-room-count_of

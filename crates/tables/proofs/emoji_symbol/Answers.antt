@@ -1,7 +1,6 @@
 use Rattle.tables.specs.Symbols.{emoji_symbol}
 use native.Mathlib.Omega.{arith}
 use borrow.Author.Tests.{eq-eqb, ne_eqb}
-use borrow.Author.Rules.{rules}
 use Rattle.tables.proofs.emoji_symbol.Goals as goal
 
 pub returns-then-brk-eq-EX : goal.returns-then-brk-eq-EX

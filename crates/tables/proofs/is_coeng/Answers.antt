@@ -1,4 +1,3 @@
-use borrow.Author.Rules.{rules}
 use Rattle.tables.proofs.is_coeng.Goals as goal
 
 pub returns-then-khmer : goal.returns-then-khmer

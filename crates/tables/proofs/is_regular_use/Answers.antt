@@ -1,5 +1,4 @@
 use Rattle.tables.specs.Symbols.{regular_use}
-use borrow.Author.Rules.{rules}
 use Rattle.tables.proofs.is_regular_use.Goals as goal
 
 pub returns : goal.returns

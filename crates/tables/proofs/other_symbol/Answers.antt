@@ -1,7 +1,6 @@
 use Rattle.tables.specs.Symbols.{other_in}
 use native.Mathlib.Omega.{arith}
 use borrow.Author.Tests.{eq-eqb, ne_eqb}
-use borrow.Author.Rules.{rules}
 use Rattle.tables.proofs.other_symbol.Goals as goal
 
 pub returns-then-x-eq-CR : goal.returns-then-x-eq-CR

@@ -1,7 +1,6 @@
 use Rattle.tables.specs.Symbols.{simple_in}
 use native.Mathlib.Omega.{arith}
 use borrow.Author.Tests.{eq-eqb, ne_eqb}
-use borrow.Author.Rules.{rules}
 use Rattle.tables.proofs.simple_in.Goals as goal
 
 pub returns-then-rare-eq0 : goal.returns-then-rare-eq0

@@ -1,6 +1,5 @@
 use Rattle.tables.proofs.Cited.{rare_made, plain_made}
 use native.Mathlib.Omega.{arith}
-use borrow.Author.Rules.{rules}
 use Rattle.tables.proofs.simple_symbol.Goals as goal
 
 pub returns-then-kind-eq10 : goal.returns-then-kind-eq10

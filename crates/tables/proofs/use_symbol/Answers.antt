@@ -1,7 +1,6 @@
 use Rattle.tables.specs.Symbols.{use_symbol, use_in}
 use native.Mathlib.Omega.{arith}
 use borrow.Author.Tests.{eq-eqb, ne_eqb}
-use borrow.Author.Rules.{rules}
 use Rattle.tables.proofs.use_symbol.Goals as goal
 
 pub returns-then-emoji-eq1 : goal.returns-then-emoji-eq1

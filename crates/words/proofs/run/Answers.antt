@@ -1,6 +1,5 @@
 use Rattle.records.proofs.Written.{ran_refused, ran_whole, ran_checked, ran_long}
 use Rattle.words.specs.Run.{run_verdict}
-use borrow.Author.Rules.{rules}
 use Rattle.words.proofs.run.Goals as goal
 
 pub returns-in_default : goal.returns-in_default

@@ -1,5 +1,4 @@
 use Rattle.cases.proofs.Pairs.{byte_read}
-use borrow.Author.Rules.{rules}
 use Rattle.cases.proofs.blocks.byte.Goals as goal
 
 pub returns : goal.returns

@@ -1,7 +1,6 @@
 use Rattle.basics.specs.Columns.{cells}
-use Rattle.cases.proofs.Pairs.{Bytes, bytes_more, bytes_all}
+use Rattle.cases.proofs.Pairs.{bytes_more, bytes_all}
 use mathlib.Core.Path.{refl}
-use Prim.Native.Nat.{◌-◌}
 use borrow.Author.Rules.{rules}
 use Rattle.cases.proofs.blocks.bytes.Goals as goal
 

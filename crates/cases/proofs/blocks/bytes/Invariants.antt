@@ -1,8 +1,5 @@
-use Rattle.basics.specs.Columns.{cells}
-use Rattle.cases.proofs.Pairs.{Bytes, bytes_more, bytes_all}
-use mathlib.Core.Path.{refl}
+use Rattle.cases.proofs.Pairs.{Bytes}
 use Prim.Native.Nat.{◌-◌}
-use borrow.Author.Rules.{rules}
 use Rattle.cases.proofs.blocks.bytes.Given as goal
 
 abbrev pub invariant-loop-i : goal.invariant-loop-i

@@ -1,7 +1,6 @@
 use Rattle.cases.proofs.Asks.{asks}
 use Rattle.cases.proofs.Pairs.{file_of, pairs_of}
 use Rattle.cases.specs.Blocks.{block_field}
-use borrow.Author.Rules.{rules}
 use Rattle.cases.proofs.blocks.is_block.Goals as goal
 
 pub returns-then-is_file : goal.returns-then-is_file

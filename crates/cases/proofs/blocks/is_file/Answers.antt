@@ -1,5 +1,4 @@
 use Rattle.cases.proofs.Pairs.{file_first, file_other}
-use borrow.Author.Rules.{rules}
 use Rattle.cases.proofs.blocks.is_file.Goals as goal
 
 pub returns-then-file-eq71 : goal.returns-then-file-eq71

@@ -1,11 +1,7 @@
 use native.Mathlib.Omega.{arith}
 use Rattle.basics.specs.Sets.{every}
 use Rattle.cases.proofs.Pairs.{pairs_odd, pairs_fail, pairs_more, pairs_all}
-use Rattle.cases.specs.Blocks.{hex_at}
-use lib.ListN.{length}
-use mathlib.Core.Bool.{true}
-use mathlib.Core.Path.{◌≡◌, refl}
-use Prim.Native.Nat.{◌-◌, ◌≤◌}
+use mathlib.Core.Path.{refl}
 use borrow.Author.Rules.{rules}
 use Rattle.cases.proofs.blocks.is_pairs.Goals as goal
 

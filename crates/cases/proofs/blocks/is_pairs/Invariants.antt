@@ -1,12 +1,9 @@
-use native.Mathlib.Omega.{arith}
 use Rattle.basics.specs.Sets.{every}
-use Rattle.cases.proofs.Pairs.{pairs_odd, pairs_fail, pairs_more, pairs_all}
 use Rattle.cases.specs.Blocks.{hex_at}
 use lib.ListN.{length}
 use mathlib.Core.Bool.{true}
-use mathlib.Core.Path.{◌≡◌, refl}
+use mathlib.Core.Path.{◌≡◌}
 use Prim.Native.Nat.{◌-◌, ◌≤◌}
-use borrow.Author.Rules.{rules}
 use Rattle.cases.proofs.blocks.is_pairs.Given as goal
 
 abbrev pub invariant-loop-i : goal.invariant-loop-i

@@ -1,10 +1,7 @@
 use Rattle.basics.specs.Columns.{cells}
-use Rattle.cases.specs.Numbers.{most16}
-use Rattle.cases.proofs.Fields.{Reading, column_more, column_all}
-use Rattle.cases.specs.Items.{cell_of}
+use Rattle.cases.proofs.Fields.{column_more, column_all}
 use Rattle.cases.specs.Spans.{rest}
 use mathlib.Core.Path.{refl}
-use Prim.Native.Nat.{◌-◌}
 use borrow.Author.Rules.{rules}
 use Rattle.cases.proofs.columns.column16.Goals as goal
 

@@ -1,10 +1,6 @@
-use Rattle.basics.specs.Columns.{cells}
-use Rattle.cases.proofs.Fields.{Reading, column_more, column_all}
+use Rattle.cases.proofs.Fields.{Reading}
 use Rattle.cases.specs.Items.{cell_of}
-use Rattle.cases.specs.Spans.{rest}
-use mathlib.Core.Path.{refl}
 use Prim.Native.Nat.{◌-◌}
-use borrow.Author.Rules.{rules}
 use Rattle.cases.proofs.columns.column8.Given as goal
 
 abbrev pub invariant-loop-i : goal.invariant-loop-i

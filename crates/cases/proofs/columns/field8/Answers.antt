@@ -1,5 +1,4 @@
 use Rattle.cases.proofs.Fields.{fields}
-use borrow.Author.Rules.{rules}
 use Rattle.cases.proofs.columns.field8.Goals as goal
 
 pub returns : goal.returns

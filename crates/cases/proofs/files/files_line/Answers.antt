@@ -1,6 +1,5 @@
 use Rattle.cases.specs.Lines.{files_line}
 use Rattle.cases.proofs.Asks.{asks}
-use borrow.Author.Rules.{rules}
 use Rattle.cases.proofs.files.files_line.Goals as goal
 
 pub returns-then-is_item : goal.returns-then-is_item

@@ -1,14 +1,10 @@
-use native.Mathlib.Omega.{arith}
 use Rattle.basics.specs.Sets.{every}
-use Rattle.cases.proofs.Fields.{none_counted, items_more, items_fail, items_all}
-use Rattle.cases.proofs.Splits.{rest_more}
 use Rattle.cases.specs.Items.{item_fits}
 use Rattle.cases.specs.Spans.{rest}
 use lib.ListN.{drop}
 use mathlib.Core.Bool.{true}
-use mathlib.Core.Path.{◌≡◌, refl}
+use mathlib.Core.Path.{◌≡◌}
 use Prim.Native.Nat.{◌-◌, ◌≤◌}
-use borrow.Author.Rules.{rules}
 use Rattle.cases.proofs.items.count_items.Given as goal
 
 abbrev pub invariant-loop-i : goal.invariant-loop-i

@@ -1,5 +1,4 @@
 use Rattle.cases.proofs.Fields.{fields}
-use borrow.Author.Rules.{rules}
 use Rattle.cases.proofs.items.fits.Goals as goal
 
 pub returns-in-Value : goal.returns-in-Value

@@ -1,6 +1,5 @@
 use Rattle.cases.specs.Items.{cell_field}
 use Rattle.cases.proofs.Asks.{asks}
-use borrow.Author.Rules.{rules}
 use Rattle.cases.proofs.items.is_cell_field.Goals as goal
 
 pub returns-then-stars-eq0 : goal.returns-then-stars-eq0

@@ -1,5 +1,4 @@
 use Rattle.cases.proofs.Fields.{dash_here, dash_not}
-use borrow.Author.Rules.{rules}
 use Rattle.cases.proofs.items.is_dash_or.Goals as goal
 
 pub returns-then-letter-eq45 : goal.returns-then-letter-eq45

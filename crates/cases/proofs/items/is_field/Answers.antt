@@ -1,5 +1,4 @@
 use Rattle.cases.proofs.Fields.{kinds}
-use borrow.Author.Rules.{rules}
 use Rattle.cases.proofs.items.is_field.Goals as goal
 
 pub returns-in-Record : goal.returns-in-Record

@@ -1,10 +1,7 @@
 use native.Mathlib.Omega.{arith}
 use Rattle.basics.specs.Sets.{every}
 use Rattle.cases.proofs.Fields.{item_uneven, item_more, item_fails, item_all}
-use Rattle.cases.specs.Items.{field_fits}
-use mathlib.Core.Bool.{true}
-use mathlib.Core.Path.{◌≡◌, refl}
-use Prim.Native.Nat.{◌+◌, ◌-◌, ◌≤◌}
+use mathlib.Core.Path.{refl}
 use borrow.Author.Rules.{rules}
 use Rattle.cases.proofs.items.is_item.Goals as goal
 

@@ -1,11 +1,8 @@
-use native.Mathlib.Omega.{arith}
 use Rattle.basics.specs.Sets.{every}
-use Rattle.cases.proofs.Fields.{item_uneven, item_more, item_fails, item_all}
 use Rattle.cases.specs.Items.{field_fits}
 use mathlib.Core.Bool.{true}
-use mathlib.Core.Path.{◌≡◌, refl}
+use mathlib.Core.Path.{◌≡◌}
 use Prim.Native.Nat.{◌+◌, ◌-◌, ◌≤◌}
-use borrow.Author.Rules.{rules}
 use Rattle.cases.proofs.items.is_item.Given as goal
 
 abbrev pub invariant-loop-k : goal.invariant-loop-k

@@ -1,6 +1,5 @@
 use Rattle.basics.proofs.Choices.{choices}
 use Rattle.cases.specs.Items.{part_field}
-use borrow.Author.Rules.{rules}
 use Rattle.cases.proofs.items.is_part_field.Goals as goal
 
 pub returns-then-k-eq0 : goal.returns-then-k-eq0

@@ -1,6 +1,5 @@
 use Rattle.cases.specs.Items.{row_field}
 use Rattle.basics.proofs.Choices.{choices}
-use borrow.Author.Rules.{rules}
 use Rattle.cases.proofs.items.is_row_field.Goals as goal
 
 pub returns-then-k-eq0 : goal.returns-then-k-eq0

@@ -1,5 +1,4 @@
 use Rattle.cases.proofs.Fields.{count_below, count_above}
-use borrow.Author.Rules.{rules}
 use Rattle.cases.proofs.items.item_count.Goals as goal
 
 pub returns-then-blanks-most : goal.returns-then-blanks-most

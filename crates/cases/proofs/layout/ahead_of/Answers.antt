@@ -1,5 +1,4 @@
 use Rattle.cases.proofs.Asks.{ahead_end, ahead_class}
-use borrow.Author.Rules.{rules}
 use Rattle.cases.proofs.layout.ahead_of.Goals as goal
 
 pub returns-then-letter-eq45 : goal.returns-then-letter-eq45

@@ -1,6 +1,5 @@
 use Rattle.basics.proofs.Choices.{choices}
 use Rattle.cases.specs.Lines.{asked_of}
-use borrow.Author.Rules.{rules}
 use Rattle.cases.proofs.layout.asked_of.Goals as goal
 
 pub returns-then-script-eq45 : goal.returns-then-script-eq45

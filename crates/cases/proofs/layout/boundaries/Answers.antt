@@ -1,5 +1,4 @@
 use Rattle.cases.proofs.Asks.{boundary_runs}
-use borrow.Author.Rules.{rules}
 use Rattle.cases.proofs.layout.boundaries.Goals as goal
 
 pub returns-in_default : goal.returns-in_default

@@ -1,6 +1,5 @@
 use Rattle.cases.specs.Lines.{boundary_step}
 use Rattle.cases.proofs.Asks.{asks}
-use borrow.Author.Rules.{rules}
 use Rattle.cases.proofs.layout.boundary_step.Goals as goal
 
 pub returns-then-is_item-4 : goal.returns-then-is_item-4

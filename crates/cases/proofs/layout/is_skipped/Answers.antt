@@ -1,5 +1,4 @@
 use Rattle.cases.proofs.Asks.{skipped_blank, skipped_hash}
-use borrow.Author.Rules.{rules}
 use Rattle.cases.proofs.layout.is_skipped.Goals as goal
 
 pub returns-then-blanks-line : goal.returns-then-blanks-line

@@ -1,6 +1,5 @@
 use Rattle.cases.specs.Lines.{kind_line}
 use Rattle.cases.proofs.Asks.{asks}
-use borrow.Author.Rules.{rules}
 use Rattle.cases.proofs.layout.kind_line.Goals as goal
 
 pub returns-then-semicolons-eq5 : goal.returns-then-semicolons-eq5

@@ -1,6 +1,5 @@
 use Rattle.cases.specs.Lines.{lent_line}
 use Rattle.cases.proofs.Asks.{asks}
-use borrow.Author.Rules.{rules}
 use Rattle.cases.proofs.layout.lent_line.Goals as goal
 
 pub returns-then-kind-eq108 : goal.returns-then-kind-eq108

@@ -1,6 +1,5 @@
 use Rattle.cases.specs.Lines.{line_step}
 use Rattle.cases.proofs.Asks.{asks, line_step_read}
-use borrow.Author.Rules.{rules}
 use Rattle.cases.proofs.layout.line_step.Goals as goal
 
 pub returns-then-fits : goal.returns-then-fits

@@ -1,5 +1,4 @@
 use Rattle.cases.proofs.Asks.{runs}
-use borrow.Author.Rules.{rules}
 use Rattle.cases.proofs.layout.marked_line.Goals as goal
 
 pub returns-in_default : goal.returns-in_default

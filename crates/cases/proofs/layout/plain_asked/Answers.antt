@@ -1,6 +1,5 @@
 use Rattle.basics.proofs.Choices.{choices}
 use Rattle.cases.specs.Lines.{plain_asked}
-use borrow.Author.Rules.{rules}
 use Rattle.cases.proofs.layout.plain_asked.Goals as goal
 
 pub returns-then-kind-eq83 : goal.returns-then-kind-eq83

@@ -1,5 +1,4 @@
 use Rattle.cases.proofs.Asks.{previous_none, previous_class}
-use borrow.Author.Rules.{rules}
 use Rattle.cases.proofs.layout.previous_of.Goals as goal
 
 pub returns-then-letter-eq45 : goal.returns-then-letter-eq45

@@ -1,5 +1,4 @@
 use Rattle.cases.proofs.Asks.{line_skipped, line_read}
-use borrow.Author.Rules.{rules}
 use Rattle.cases.proofs.layout.read.Goals as goal
 
 pub returns-then-is_skipped : goal.returns-then-is_skipped

@@ -1,6 +1,5 @@
 use Rattle.cases.specs.Lines.{run_line}
 use Rattle.cases.proofs.Asks.{asks}
-use borrow.Author.Rules.{rules}
 use Rattle.cases.proofs.layout.run_line.Goals as goal
 
 pub returns-then-kind-eq87 : goal.returns-then-kind-eq87

@@ -1,5 +1,4 @@
 use Rattle.cases.proofs.Asks.{state_read}
-use borrow.Author.Rules.{rules}
 use Rattle.cases.proofs.layout.state_of.Goals as goal
 
 pub returns : goal.returns

@@ -1,6 +1,5 @@
 use Rattle.cases.specs.Lines.{step_line}
 use Rattle.cases.proofs.Asks.{asks}
-use borrow.Author.Rules.{rules}
 use Rattle.cases.proofs.layout.step_line.Goals as goal
 
 pub returns-then-is_item-3 : goal.returns-then-is_item-3

@@ -1,5 +1,4 @@
 use Rattle.cases.proofs.Asks.{step_read}
-use borrow.Author.Rules.{rules}
 use Rattle.cases.proofs.layout.step_of.Goals as goal
 
 pub returns : goal.returns

@@ -1,6 +1,5 @@
 use Rattle.cases.specs.Lines.{strength_line}
 use Rattle.cases.proofs.Asks.{asks}
-use borrow.Author.Rules.{rules}
 use Rattle.cases.proofs.layout.strength_line.Goals as goal
 
 pub returns-then-same : goal.returns-then-same

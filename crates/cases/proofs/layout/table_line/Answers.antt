@@ -1,5 +1,4 @@
 use Rattle.cases.proofs.Asks.{tables}
-use borrow.Author.Rules.{rules}
 use Rattle.cases.proofs.layout.table_line.Goals as goal
 
 pub returns-then-same : goal.returns-then-same

@@ -1,5 +1,4 @@
 use Rattle.cases.proofs.Asks.{texts}
-use borrow.Author.Rules.{rules}
 use Rattle.cases.proofs.layout.text_in.Goals as goal
 
 pub returns-in_default : goal.returns-in_default

@@ -1,5 +1,4 @@
 use Rattle.cases.proofs.Asks.{text_asked, text_nobody}
-use borrow.Author.Rules.{rules}
 use Rattle.cases.proofs.layout.text_line.Goals as goal
 
 pub returns-in-Of : goal.returns-in-Of

@@ -1,6 +1,5 @@
 use Rattle.cases.proofs.Asks.{asks}
 use Rattle.cases.specs.Lines.{moded}
-use borrow.Author.Rules.{rules}
 use Rattle.cases.proofs.layout.text_moded.Goals as goal
 
 pub returns-then-same : goal.returns-then-same

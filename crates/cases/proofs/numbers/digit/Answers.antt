@@ -1,6 +1,5 @@
 use Rattle.basics.proofs.Choices.{choices}
 use Rattle.cases.specs.Numbers.{digit_of}
-use borrow.Author.Rules.{rules}
 use Rattle.cases.proofs.numbers.digit.Goals as goal
 
 pub returns-then-x-lt48 : goal.returns-then-x-lt48

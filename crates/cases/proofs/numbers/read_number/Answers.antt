@@ -1,7 +1,5 @@
-use Rattle.cases.proofs.Digits.{Left, left_all, left_more, grows, readings}
+use Rattle.cases.proofs.Digits.{left_all, left_more, grows, readings}
 use native.Mathlib.Omega.{arith}
-use lib.ListN.{length}
-use Prim.Native.Nat.{◌≤◌, ◌-◌}
 use borrow.Author.Rules.{rules}
 use Rattle.cases.proofs.numbers.read_number.Goals as goal
 

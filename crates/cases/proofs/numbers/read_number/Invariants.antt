@@ -1,8 +1,6 @@
-use Rattle.cases.proofs.Digits.{Left, left_all, left_more, grows, readings}
-use native.Mathlib.Omega.{arith}
+use Rattle.cases.proofs.Digits.{Left}
 use lib.ListN.{length}
 use Prim.Native.Nat.{◌≤◌, ◌-◌}
-use borrow.Author.Rules.{rules}
 use Rattle.cases.proofs.numbers.read_number.Given as goal
 
 abbrev pub invariant-loop-i : goal.invariant-loop-i

@@ -1,10 +1,6 @@
 use Rattle.cases.proofs.Splits.{count_here, count_pass, count_over}
-use Rattle.cases.specs.Spans.{count}
 use native.Mathlib.Omega.{arith}
-use lib.ListN.{length, drop}
 use Rattle.cases.proofs.spans.count.Goals.{then-xs-i, else-xs-i}
-use mathlib.Core.Path.{◌≡◌}
-use Prim.Native.Nat.{◌+◌, ◌-◌, ◌≤◌}
 use borrow.Author.Rules.{rules}
 use Rattle.cases.proofs.spans.count.Goals as goal
 

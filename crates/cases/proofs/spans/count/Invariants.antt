@@ -1,11 +1,7 @@
-use Rattle.cases.proofs.Splits.{count_here, count_pass, count_over}
 use Rattle.cases.specs.Spans.{count}
-use native.Mathlib.Omega.{arith}
 use lib.ListN.{length, drop}
-use mathlib.Core.Logic.{⊎_elim}
 use mathlib.Core.Path.{◌≡◌}
 use Prim.Native.Nat.{◌+◌, ◌-◌, ◌≤◌}
-use borrow.Author.Rules.{rules}
 use Rattle.cases.proofs.spans.count.Given as goal
 
 abbrev pub invariant-loop-i : goal.invariant-loop-i

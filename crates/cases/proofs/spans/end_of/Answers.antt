@@ -1,8 +1,5 @@
 use Rattle.cases.proofs.Splits.{end_here, end_pass, end_over}
-use Rattle.cases.specs.Spans.{before}
-use lib.ListN.{length, drop}
-use mathlib.Core.Path.{◌≡◌, refl}
-use Prim.Native.Nat.{◌+◌, ◌-◌}
+use mathlib.Core.Path.{refl}
 use borrow.Author.Rules.{rules}
 use Rattle.cases.proofs.spans.end_of.Goals as goal
 

@@ -1,9 +1,7 @@
-use Rattle.cases.proofs.Splits.{end_here, end_pass, end_over}
 use Rattle.cases.specs.Spans.{before}
 use lib.ListN.{length, drop}
-use mathlib.Core.Path.{◌≡◌, refl}
+use mathlib.Core.Path.{◌≡◌}
 use Prim.Native.Nat.{◌+◌, ◌-◌}
-use borrow.Author.Rules.{rules}
 use Rattle.cases.proofs.spans.end_of.Given as goal
 
 abbrev pub invariant-loop-i : goal.invariant-loop-i

@@ -1,6 +1,5 @@
 use Rattle.basics.proofs.Choices.{choices}
 use Rattle.cases.specs.Spans.{letter}
-use borrow.Author.Rules.{rules}
 use Rattle.cases.proofs.spans.letter.Goals as goal
 
 pub returns-then-xs-eq1 : goal.returns-then-xs-eq1

@@ -1,5 +1,4 @@
 use Rattle.cases.proofs.Splits.{next_found, next_none}
-use borrow.Author.Rules.{rules}
 use Rattle.cases.proofs.spans.next_of.Goals as goal
 
 pub returns-then-end-xs : goal.returns-then-end-xs

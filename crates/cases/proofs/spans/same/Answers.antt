@@ -1,11 +1,7 @@
 use Rattle.basics.specs.Sets.{every}
 use Rattle.cases.proofs.Splits.{equal_short, equal_fails, equal_all, equal_more}
-use Rattle.cases.specs.Spans.{agree}
 use native.Mathlib.Omega.{arith}
-use lib.ListN.{length}
-use mathlib.Core.Bool.{true}
-use mathlib.Core.Path.{◌≡◌, refl}
-use Prim.Native.Nat.{◌-◌, ◌≤◌}
+use mathlib.Core.Path.{refl}
 use borrow.Author.Rules.{rules}
 use Rattle.cases.proofs.spans.same.Goals as goal
 

@@ -1,9 +1,7 @@
 use native.Mathlib.Omega.{arith}
 use Rattle.cases.proofs.Splits.{rest_more, span_read}
 use Rattle.cases.specs.Spans.{rest}
-use lib.ListN.{drop}
 use mathlib.Core.Path.{◌≡◌, refl}
-use Prim.Native.Nat.{◌-◌, ◌≤◌}
 use borrow.Author.Rules.{rules}
 use Rattle.cases.proofs.spans.span.Goals as goal
 

@@ -1,10 +1,7 @@
-use native.Mathlib.Omega.{arith}
-use Rattle.cases.proofs.Splits.{rest_more, span_read}
 use Rattle.cases.specs.Spans.{rest}
 use lib.ListN.{drop}
-use mathlib.Core.Path.{◌≡◌, refl}
+use mathlib.Core.Path.{◌≡◌}
 use Prim.Native.Nat.{◌-◌, ◌≤◌}
-use borrow.Author.Rules.{rules}
 use Rattle.cases.proofs.spans.span.Given as goal
 
 abbrev pub invariant-loop-i : goal.invariant-loop-i

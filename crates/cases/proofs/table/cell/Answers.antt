@@ -1,5 +1,4 @@
 use Rattle.cases.proofs.Laid.{value_read}
-use borrow.Author.Rules.{rules}
 use Rattle.cases.proofs.table.cell.Goals as goal
 
 pub returns : goal.returns

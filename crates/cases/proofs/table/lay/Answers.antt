@@ -1,7 +1,5 @@
-use Prim.Native.Nat.{◌-◌, ◌≤◌}
+use Prim.Native.Nat.{◌-◌}
 use mathlib.Core.Path.{◌≡◌}
-use lib.ListN.{replicate}
-use lib.Seq.{sets}
 use native.Mathlib.Omega.{arith}
 use Rattle.cases.proofs.Laid.{lay_none, lay_more}
 use borrow.Author.Rules.{rules}

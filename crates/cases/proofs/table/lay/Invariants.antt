@@ -2,9 +2,6 @@ use Prim.Native.Nat.{◌-◌, ◌≤◌}
 use mathlib.Core.Path.{◌≡◌}
 use lib.ListN.{replicate}
 use lib.Seq.{sets}
-use native.Mathlib.Omega.{arith}
-use Rattle.cases.proofs.Laid.{lay_none, lay_more}
-use borrow.Author.Rules.{rules}
 use Rattle.cases.proofs.table.lay.Given as goal
 
 abbrev pub invariant-loop-i : goal.invariant-loop-i

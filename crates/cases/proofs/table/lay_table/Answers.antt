@@ -1,8 +1,5 @@
-use Prim.Native.Nat.{◌+◌, ◌-◌, ◌≤◌}
-use mathlib.Core.Path.{◌≡◌, refl}
-use lib.ListN.{length, take, drop}
-use lib.Seq.{sets}
-use Rattle.cases.specs.Table.{table_to, reached, kept_of, most_kept}
+use mathlib.Core.Path.{refl}
+use Rattle.cases.specs.Table.{table_to, kept_of}
 use Rattle.cases.specs.Spans.{rest}
 use Rattle.cases.proofs.Splits.{rest_more, count_bound}
 use Rattle.cases.proofs.Laid.{kept_next, laid_next, none_kept, none_laid, all_kept, all_laid}

@@ -1,12 +1,9 @@
 use Prim.Native.Nat.{◌+◌, ◌-◌, ◌≤◌}
-use mathlib.Core.Path.{◌≡◌, refl}
+use mathlib.Core.Path.{◌≡◌}
 use lib.ListN.{length, take, drop}
 use lib.Seq.{sets}
 use Rattle.cases.specs.Table.{table_to, reached, kept_of, most_kept}
 use Rattle.cases.specs.Spans.{rest}
-use Rattle.cases.proofs.Splits.{rest_more, count_bound}
-use Rattle.cases.proofs.Laid.{kept_next, laid_next, none_kept, none_laid, all_kept, all_laid}
-use borrow.Author.Rules.{rules}
 use Rattle.cases.proofs.table.lay_table.Given as goal
 
 abbrev pub invariant-loop-i : goal.invariant-loop-i

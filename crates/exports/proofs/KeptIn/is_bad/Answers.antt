@@ -1,6 +1,5 @@
 use Rattle.basics.proofs.Choices.{chains}
 use borrow.Author.Tests.{lt-ltb, le-ltb}
-use borrow.Author.Rules.{rules}
 use Rattle.exports.proofs.KeptIn.is_bad.Goals as goal
 
 pub returns-then-is_bad : goal.returns-then-is_bad

@@ -1,6 +1,5 @@
 use Rattle.exports.proofs.StateLaws.{judged_by, step_told}
 use Rattle.exports.specs.Graphemes.{grapheme_judged}
-use borrow.Author.Rules.{rules}
 use Rattle.exports.proofs.graphemesteps.tell_grapheme.Goals as goal
 
 pub returns-in_default : goal.returns-in_default

@@ -1,9 +1,8 @@
 use Rattle.exports.proofs.StepLaws.{laid_more, laid_all}
 use Rattle.exports.specs.Steps.{scalar_of, class_of, record_of, noted_of}
-use Rattle.segment.proofs.Written.{Cells}
 use lib.ListN.{length}
 use native.Mathlib.Omega.{arith}
-use Prim.Native.Nat.{◌≤◌, ◌<◌, ◌-◌}
+use Prim.Native.Nat.{◌<◌}
 use mathlib.Core.Path.{refl}
 use borrow.Author.Rules.{rules}
 use Rattle.exports.proofs.laid.lay.Goals as goal

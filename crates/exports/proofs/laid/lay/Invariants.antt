@@ -1,11 +1,6 @@
-use Rattle.exports.proofs.StepLaws.{laid_more, laid_all}
 use Rattle.exports.specs.Steps.{scalar_of, class_of, record_of, noted_of}
 use Rattle.segment.proofs.Written.{Cells}
-use lib.ListN.{length}
-use native.Mathlib.Omega.{arith}
-use Prim.Native.Nat.{◌≤◌, ◌<◌, ◌-◌}
-use mathlib.Core.Path.{refl}
-use borrow.Author.Rules.{rules}
+use Prim.Native.Nat.{◌≤◌, ◌-◌}
 use Rattle.exports.proofs.laid.lay.Given as goal
 
 abbrev pub invariant-loop-j : goal.invariant-loop-j

@@ -1,6 +1,5 @@
 use Rattle.basics.proofs.Choices.{chains}
 use borrow.Author.Tests.{lt-ltb, le-ltb}
-use borrow.Author.Rules.{rules}
 use Rattle.exports.proofs.linesteps.is_bad_next.Goals as goal
 
 pub returns-then-row-gt255 : goal.returns-then-row-gt255

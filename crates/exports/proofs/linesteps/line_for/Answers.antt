@@ -1,5 +1,4 @@
 use Rattle.exports.proofs.LineLaws.{line_outside, line_listed}
-use borrow.Author.Rules.{rules}
 use Rattle.exports.proofs.linesteps.line_for.Goals as goal
 
 pub returns-in_default : goal.returns-in_default

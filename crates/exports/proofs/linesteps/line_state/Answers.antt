@@ -1,4 +1,3 @@
-use borrow.Author.Rules.{rules}
 use Rattle.exports.proofs.linesteps.line_state.Goals as goal
 
 pub returns : goal.returns

@@ -1,6 +1,5 @@
 use borrow.Author.Tests.{lt-ltb, le-ltb}
 use Rattle.exports.specs.Lines.{previous_of}
-use borrow.Author.Rules.{rules}
 use Rattle.exports.proofs.linesteps.previous_in.Goals as goal
 
 pub returns-then-before-gt0 : goal.returns-then-before-gt0

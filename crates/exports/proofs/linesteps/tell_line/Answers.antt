@@ -1,6 +1,5 @@
 use Rattle.exports.proofs.StateLaws.{step_told}
 use Rattle.exports.specs.Lines.{line_judged}
-use borrow.Author.Rules.{rules}
 use Rattle.exports.proofs.linesteps.tell_line.Goals as goal
 
 pub returns-in_default : goal.returns-in_default

@@ -1,6 +1,5 @@
 use Rattle.exports.proofs.StateLaws.{judged_by, step_told}
 use Rattle.exports.specs.Lines.{next_judged}
-use borrow.Author.Rules.{rules}
 use Rattle.exports.proofs.linesteps.tell_next.Goals as goal
 
 pub returns-in_default : goal.returns-in_default

@@ -1,7 +1,6 @@
 use Rattle.exports.proofs.RequestLaws.{check_unknown, check_known}
 use mathlib.Core.Path.{ap}
 use Rattle.records.specs.declared.Verdict.TheVariants.{Refused}
-use borrow.Author.Rules.{rules}
 use Rattle.exports.proofs.requests.check_asked.Goals as goal
 
 pub returns-in_default : goal.returns-in_default

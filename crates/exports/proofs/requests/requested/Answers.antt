@@ -1,6 +1,5 @@
 use Rattle.exports.specs.Requests.{request_of}
 use Rattle.basics.proofs.Choices.{choices}
-use borrow.Author.Rules.{rules}
 use Rattle.exports.proofs.requests.requested.Goals as goal
 
 pub returns-then-parser-eq0 : goal.returns-then-parser-eq0

@@ -1,5 +1,4 @@
 use Rattle.exports.proofs.Refusals.{numbered_none, numbered_some}
-use borrow.Author.Rules.{rules}
 use Rattle.exports.proofs.results.numbered.Goals as goal
 
 pub returns-in-Accepted : goal.returns-in-Accepted

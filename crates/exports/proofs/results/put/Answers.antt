@@ -1,8 +1,7 @@
-use Rattle.exports.proofs.ResultLaws.{Copied, copied_more, no_room, all_copied}
+use Rattle.exports.proofs.ResultLaws.{copied_more, no_room, all_copied}
 use native.Mathlib.Omega.{arith}
 use lib.ListN.{length}
 use mathlib.Core.Path.{◌≡◌, refl}
-use Prim.Native.Nat.{◌≤◌, ◌-◌}
 use borrow.Author.Rules.{rules}
 use Rattle.exports.proofs.results.put.Goals as goal
 

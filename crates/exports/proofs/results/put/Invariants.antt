@@ -1,9 +1,6 @@
-use Rattle.exports.proofs.ResultLaws.{Copied, copied_more, no_room, all_copied}
-use native.Mathlib.Omega.{arith}
+use Rattle.exports.proofs.ResultLaws.{Copied}
 use lib.ListN.{length}
-use mathlib.Core.Path.{◌≡◌, refl}
 use Prim.Native.Nat.{◌≤◌, ◌-◌}
-use borrow.Author.Rules.{rules}
 use Rattle.exports.proofs.results.put.Given as goal
 
 abbrev pub invariant-loop-i : goal.invariant-loop-i

@@ -1,6 +1,5 @@
 use Rattle.exports.proofs.Refusals.{told_by}
 use mathlib.Core.Path.{refl}
-use borrow.Author.Rules.{rules}
 use Rattle.exports.proofs.results.tell_read.Goals as goal
 
 pub returns : goal.returns

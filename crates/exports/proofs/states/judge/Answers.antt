@@ -1,5 +1,4 @@
 use Rattle.exports.proofs.StateLaws.{judged_refused, judged_bad, judged_good}
-use borrow.Author.Rules.{rules}
 use Rattle.exports.proofs.states.judge.Goals as goal
 
 pub returns-in_default : goal.returns-in_default

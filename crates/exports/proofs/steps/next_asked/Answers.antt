@@ -1,5 +1,4 @@
 use Rattle.exports.proofs.StepLaws.{step_unknown, step_known}
-use borrow.Author.Rules.{rules}
 use Rattle.exports.proofs.steps.next_asked.Goals as goal
 
 pub returns-in_default : goal.returns-in_default

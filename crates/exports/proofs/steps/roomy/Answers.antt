@@ -1,6 +1,5 @@
 use Rattle.exports.proofs.StepLaws.{room_none, room_all}
 use mathlib.Core.Path.{refl}
-use borrow.Author.Rules.{rules}
 use Rattle.exports.proofs.steps.roomy.Goals as goal
 
 pub returns-then-cells-lt-CLUSTER_ROOM : goal.returns-then-cells-lt-CLUSTER_ROOM

@@ -1,5 +1,4 @@
 use Rattle.exports.proofs.StepLaws.{taken_refused, taken_passed}
-use borrow.Author.Rules.{rules}
 use Rattle.exports.proofs.steps.taken.Goals as goal
 
 pub returns-in_default : goal.returns-in_default

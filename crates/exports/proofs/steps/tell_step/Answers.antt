@@ -1,5 +1,4 @@
 use Rattle.exports.proofs.StepLaws.{step_numbers_lem}
-use borrow.Author.Rules.{rules}
 use Rattle.exports.proofs.steps.tell_step.Goals as goal
 
 pub returns : goal.returns

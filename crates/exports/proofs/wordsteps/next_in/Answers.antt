@@ -1,6 +1,5 @@
 use borrow.Author.Tests.{lt-ltb, le-ltb}
 use Rattle.words.specs.Run.{next_at}
-use borrow.Author.Rules.{rules}
 use Rattle.exports.proofs.wordsteps.next_in.Goals as goal
 
 pub returns-then-rest-gt0 : goal.returns-then-rest-gt0

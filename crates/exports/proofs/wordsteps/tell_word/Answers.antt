@@ -1,6 +1,5 @@
 use Rattle.exports.proofs.StateLaws.{judged_by, step_told}
 use Rattle.exports.specs.Words.{word_judged}
-use borrow.Author.Rules.{rules}
 use Rattle.exports.proofs.wordsteps.tell_word.Goals as goal
 
 pub returns-in_default : goal.returns-in_default

@@ -1,5 +1,4 @@
 use Rattle.basics.proofs.Choices.{chains}
-use borrow.Author.Rules.{rules}
 use Rattle.lines.proofs.BoundaryState.is_bad.Goals as goal
 
 pub returns-then-is_bad : goal.returns-then-is_bad

@@ -1,6 +1,5 @@
 use Rattle.lines.specs.NextStep.{next_verdict}
 use Rattle.lines.proofs.Arms.{judged_of}
-use borrow.Author.Rules.{rules}
 use Rattle.lines.proofs.BoundaryState.judge.Goals as goal
 
 pub returns : goal.returns

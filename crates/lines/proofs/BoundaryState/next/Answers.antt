@@ -1,5 +1,4 @@
 use Rattle.lines.proofs.NextArms.{next_refused, next_passed}
-use borrow.Author.Rules.{rules}
 use Rattle.lines.proofs.BoundaryState.next.Goals as goal
 
 pub returns-in_default : goal.returns-in_default

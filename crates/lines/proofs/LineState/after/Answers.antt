@@ -1,5 +1,4 @@
 use Rattle.lines.specs.Rules.{line_after}
-use borrow.Author.Rules.{rules}
 use Rattle.lines.proofs.LineState.after.Goals as goal
 
 pub returns : goal.returns

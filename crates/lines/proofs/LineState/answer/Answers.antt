@@ -1,5 +1,4 @@
 use Rattle.lines.proofs.Arms.{answering}
-use borrow.Author.Rules.{rules}
 use Rattle.lines.proofs.LineState.answer.Goals as goal
 
 pub returns-then-keeps : goal.returns-then-keeps

@@ -1,5 +1,4 @@
 use Rattle.lines.proofs.Arms.{asks}
-use borrow.Author.Rules.{rules}
 use Rattle.lines.proofs.LineState.asked.Goals as goal
 
 pub returns-in-Normal : goal.returns-in-Normal

@@ -1,6 +1,5 @@
 use borrow.Author.Tests.{le-leb, lt-leb}
 use Rattle.basics.proofs.Choices.{chains}
-use borrow.Author.Rules.{rules}
 use Rattle.lines.proofs.LineState.is_bad.Goals as goal
 
 pub returns-then-table-self : goal.returns-then-table-self

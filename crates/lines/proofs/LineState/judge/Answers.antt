@@ -1,6 +1,5 @@
 use Rattle.lines.specs.Refusals.{step_verdict}
 use Rattle.lines.proofs.Arms.{judged_of}
-use borrow.Author.Rules.{rules}
 use Rattle.lines.proofs.LineState.judge.Goals as goal
 
 pub returns : goal.returns

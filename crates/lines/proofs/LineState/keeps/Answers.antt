@@ -1,5 +1,4 @@
 use Rattle.lines.proofs.Arms.{keeping}
-use borrow.Author.Rules.{rules}
 use Rattle.lines.proofs.LineState.keeps.Goals as goal
 
 pub returns-then-is_kept_together : goal.returns-then-is_kept_together

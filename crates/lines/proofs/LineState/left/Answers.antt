@@ -1,5 +1,4 @@
 use Rattle.basics.proofs.Choices.{choices}
-use borrow.Author.Rules.{rules}
 use Rattle.lines.proofs.LineState.left.Goals as goal
 
 pub returns-then-is_as_ideograph : goal.returns-then-is_as_ideograph

@@ -1,5 +1,4 @@
 use Rattle.lines.proofs.Arms.{steps}
-use borrow.Author.Rules.{rules}
 use Rattle.lines.proofs.LineState.step.Goals as goal
 
 pub returns-in_default : goal.returns-in_default

@@ -1,5 +1,4 @@
 use Rattle.lines.proofs.Arms.{previous}
-use borrow.Author.Rules.{rules}
 use Rattle.lines.proofs.Previous.is_kept_together.Goals as goal
 
 pub returns-in-Class : goal.returns-in-Class

@@ -1,5 +1,4 @@
 use Rattle.lines.proofs.Arms.{bad_class, bad_none}
-use borrow.Author.Rules.{rules}
 use Rattle.lines.proofs.Previous.is_outside.Goals as goal
 
 pub returns-in-Class : goal.returns-in-Class

@@ -1,6 +1,5 @@
 use Rattle.basics.proofs.Sets.{member_last}
 use Rattle.lines.proofs.Arms.{previous}
-use borrow.Author.Rules.{rules}
 use Rattle.lines.proofs.Previous.is_zwj.Goals as goal
 
 pub returns-in-Class : goal.returns-in-Class

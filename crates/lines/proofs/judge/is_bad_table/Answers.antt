@@ -1,7 +1,6 @@
 use Rattle.basics.proofs.Choices.{chains}
 use Rattle.lines.specs.Refusals.{bad_table}
 use Rattle.records.proofs.Any.{seeks}
-use borrow.Author.Rules.{rules}
 use Rattle.lines.proofs.judge.is_bad_table.Goals as goal
 
 pub returns-then-table-ne0 : goal.returns-then-table-ne0

@@ -1,6 +1,5 @@
 use Rattle.records.proofs.Chain.{told_verdicts}
 use Rattle.lines.specs.Refusals.{judged}
-use borrow.Author.Rules.{rules}
 use Rattle.lines.proofs.judge.judge_step.Goals as goal
 
 pub returns-then-is_bad_table : goal.returns-then-is_bad_table

@@ -1,5 +1,4 @@
 use Rattle.lines.proofs.NextArms.{of_three, of_fourth}
-use borrow.Author.Rules.{rules}
 use Rattle.lines.proofs.next.is_bad_step.Goals as goal
 
 pub returns-then-is_bad_three : goal.returns-then-is_bad_three

@@ -1,5 +1,4 @@
 use Rattle.lines.proofs.NextArms.{none_word, none_none}
-use borrow.Author.Rules.{rules}
 use Rattle.lines.proofs.next.or_word.Goals as goal
 
 pub returns-then-word-eq1 : goal.returns-then-word-eq1

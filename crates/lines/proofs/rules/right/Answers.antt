@@ -1,5 +1,4 @@
 use Rattle.basics.proofs.Choices.{choices}
-use borrow.Author.Rules.{rules}
 use Rattle.lines.proofs.rules.right.Goals as goal
 
 pub returns-then-is_as_ideograph : goal.returns-then-is_as_ideograph

@@ -1,5 +1,4 @@
 use Rattle.lines.proofs.Arms.{tells}
-use borrow.Author.Rules.{rules}
 use Rattle.lines.proofs.rules.told.Goals as goal
 
 pub returns-then-is_mandatory : goal.returns-then-is_mandatory

@@ -1,5 +1,4 @@
 use Rattle.lines.proofs.RunLaws.{check_shape, check_table, check_records}
-use borrow.Author.Rules.{rules}
 use Rattle.lines.proofs.runs.check.Goals as goal
 
 pub returns-in_default : goal.returns-in_default

@@ -1,11 +1,8 @@
-use Prim.Native.Nat.{◌≤◌, ◌-◌}
 use mathlib.Core.Path.{◌≡◌, refl}
 use lib.ListN.{length}
 use native.Mathlib.Omega.{arith}
 use Rattle.basics.specs.Columns.{cells}
-use Rattle.basics.proofs.Columns.{Written}
 use Rattle.lines.specs.Run.{state_at}
-use Rattle.lines.specs.Inner.{laid_at}
 use Rattle.lines.proofs.Turns.{turn_state, turn_cells}
 use borrow.Author.Rules.{rules}
 use Rattle.lines.proofs.runs.lay.Goals as goal

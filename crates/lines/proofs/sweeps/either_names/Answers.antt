@@ -1,9 +1,7 @@
-use Prim.Native.Nat.{◌-◌}
 use mathlib.Core.Path.{refl}
-use lib.ListN.{length}
 use native.Mathlib.Omega.{arith}
 use Rattle.lines.specs.Rules.{row_in}
-use Rattle.lines.proofs.Greatest.{Swept, swept_none, swept_more, swept_both}
+use Rattle.lines.proofs.Greatest.{swept_none, swept_more, swept_both}
 use borrow.Author.Rules.{rules}
 use Rattle.lines.proofs.sweeps.either_names.Goals as goal
 

@@ -4,7 +4,6 @@ use native.Mathlib.Omega.{arith}
 use lib.ListN.{length}
 use lib.Seq.{length-take-le}
 use Rattle.lines.proofs.Greatest.{halves_even, any_halves}
-use borrow.Author.Rules.{rules}
 use Rattle.lines.proofs.sweeps.names_no_row.Goals as goal
 
 pub slice_bounds-either_names-end : goal.slice_bounds-either_names-end

@@ -1,7 +1,6 @@
 use mathlib.Core.Path.{◌∙◌, ap}
 use Rattle.cases.specs.Spans.{up_to}
 use Rattle.properties.specs.Lines.{trimmed, body_of}
-use borrow.Author.Rules.{rules}
 use Rattle.properties.proofs.lines.body_of.Goals as goal
 
 pub returns : goal.returns

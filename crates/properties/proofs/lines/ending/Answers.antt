@@ -1,8 +1,4 @@
 use Rattle.properties.proofs.Grammar.{end_over, end_more, end_here}
-use Rattle.properties.specs.Lines.{ending}
-use lib.ListN.{length}
-use mathlib.Core.Path.{◌≡◌}
-use Prim.Native.Nat.{◌≤◌}
 use borrow.Author.Rules.{rules}
 use Rattle.properties.proofs.lines.ending.Goals as goal
 

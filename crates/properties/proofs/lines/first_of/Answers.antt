@@ -1,6 +1,5 @@
 use mathlib.Core.Path.{◌∙◌, ap}
 use Rattle.properties.specs.Lines.{hex, first_of}
-use borrow.Author.Rules.{rules}
 use Rattle.properties.proofs.lines.first_of.Goals as goal
 
 pub returns : goal.returns

@@ -1,5 +1,4 @@
 use Rattle.properties.specs.Lines.{hex}
-use borrow.Author.Rules.{rules}
 use Rattle.properties.proofs.lines.hex.Goals as goal
 
 pub returns : goal.returns

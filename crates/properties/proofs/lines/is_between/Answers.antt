@@ -1,6 +1,5 @@
 use Rattle.basics.proofs.Choices.{chains}
 use Rattle.properties.specs.Lines.{is_between}
-use borrow.Author.Rules.{rules}
 use Rattle.properties.proofs.lines.is_between.Goals as goal
 
 pub returns-then-is_blank : goal.returns-then-is_blank

@@ -1,9 +1,7 @@
-use Rattle.records.proofs.Any.{Left, any_hit, any_pass, any_over}
+use Rattle.records.proofs.Any.{any_hit, any_pass, any_over}
 use Rattle.properties.proofs.Grammar.{value_none, value_by}
 use Rattle.properties.specs.Lines.{is_between}
-use lib.ListN.{length}
 use mathlib.Core.Path.{refl, sym, ◌∙◌}
-use Prim.Native.Nat.{◌-◌}
 use borrow.Author.Rules.{rules}
 use Rattle.properties.proofs.lines.is_no_value.Goals as goal
 

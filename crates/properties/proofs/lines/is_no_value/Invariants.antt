@@ -1,10 +1,7 @@
-use Rattle.records.proofs.Any.{Left, any_hit, any_pass, any_over}
-use Rattle.properties.proofs.Grammar.{value_none, value_by}
+use Rattle.records.proofs.Any.{Left}
 use Rattle.properties.specs.Lines.{is_between}
 use lib.ListN.{length}
-use mathlib.Core.Path.{refl, sym, ◌∙◌}
 use Prim.Native.Nat.{◌-◌}
-use borrow.Author.Rules.{rules}
 use Rattle.properties.proofs.lines.is_no_value.Given as goal
 
 abbrev pub invariant-loop-i : goal.invariant-loop-i

@@ -1,8 +1,4 @@
 use Rattle.properties.proofs.Grammar.{lead_over, lead_more, lead_here}
-use Rattle.properties.specs.Lines.{leading}
-use lib.ListN.{length, drop}
-use mathlib.Core.Path.{◌≡◌}
-use Prim.Native.Nat.{◌+◌, ◌-◌, ◌≤◌}
 use borrow.Author.Rules.{rules}
 use Rattle.properties.proofs.lines.leading.Goals as goal
 

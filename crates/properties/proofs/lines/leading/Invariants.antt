@@ -1,9 +1,7 @@
-use Rattle.properties.proofs.Grammar.{lead_over, lead_more, lead_here}
 use Rattle.properties.specs.Lines.{leading}
 use lib.ListN.{length, drop}
 use mathlib.Core.Path.{◌≡◌}
 use Prim.Native.Nat.{◌+◌, ◌-◌, ◌≤◌}
-use borrow.Author.Rules.{rules}
 use Rattle.properties.proofs.lines.leading.Given as goal
 
 abbrev pub invariant-loop-i : goal.invariant-loop-i

@@ -1,5 +1,4 @@
 use Rattle.properties.proofs.Grammar.{line_skipped, line_none, line_range}
-use borrow.Author.Rules.{rules}
 use Rattle.properties.proofs.lines.line_of.Goals as goal
 
 pub returns-then-body-eq0 : goal.returns-then-body-eq0

@@ -1,5 +1,4 @@
 use Rattle.properties.proofs.Grammar.{range_up, range_down}
-use borrow.Author.Rules.{rules}
 use Rattle.properties.proofs.lines.range_of.Goals as goal
 
 pub returns-then-a-b : goal.returns-then-a-b

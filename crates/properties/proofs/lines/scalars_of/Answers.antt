@@ -1,6 +1,5 @@
 use mathlib.Core.Path.{◌∙◌, ap}
 use Rattle.properties.specs.Lines.{trimmed, scalars_of}
-use borrow.Author.Rules.{rules}
 use Rattle.properties.proofs.lines.scalars_of.Goals as goal
 
 pub returns : goal.returns

@@ -1,7 +1,6 @@
 use lib.Seq.{length-take-le}
 use mathlib.Core.Path.{sym}
 use Rattle.properties.specs.Lines.{untailed}
-use borrow.Author.Rules.{rules}
 use Rattle.properties.proofs.lines.untailed.Goals as goal
 
 pub slice_bounds-result-end : goal.slice_bounds-result-end

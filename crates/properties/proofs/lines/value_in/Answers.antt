@@ -1,6 +1,5 @@
 use mathlib.Core.Path.{◌∙◌, ap}
 use Rattle.properties.specs.Lines.{value_of, value_in}
-use borrow.Author.Rules.{rules}
 use Rattle.properties.proofs.lines.value_in.Goals as goal
 
 pub returns : goal.returns

@@ -2,7 +2,6 @@ use Rattle.properties.proofs.Grammar.{cr_none, cr_cut, cr_other}
 use native.Mathlib.Omega.{arith}
 use lib.Seq.{length-take-le}
 use mathlib.Core.Path.{sym}
-use borrow.Author.Rules.{rules}
 use Rattle.properties.proofs.lines.without_cr.Goals as goal
 
 pub returns-then-line-eq0 : goal.returns-then-line-eq0

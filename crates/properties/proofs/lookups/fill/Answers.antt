@@ -1,10 +1,7 @@
-use Prim.Native.Nat.{◌≤◌, ◌-◌}
 use mathlib.Core.Path.{◌≡◌, refl}
 use lib.ListN.{length}
 use native.Mathlib.Omega.{arith}
 use Rattle.basics.specs.Columns.{cells}
-use Rattle.basics.proofs.Columns.{Written}
-use Rattle.properties.specs.Ranges.{ranges, class_at}
 use Rattle.properties.proofs.Fills.{count_reach, filled_more}
 use borrow.Author.Rules.{rules}
 use Rattle.properties.proofs.lookups.fill.Goals as goal

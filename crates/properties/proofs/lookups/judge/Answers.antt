@@ -1,5 +1,4 @@
 use Rattle.properties.proofs.Fills.{judged_scalar, judged_short, judged_whole}
-use borrow.Author.Rules.{rules}
 use Rattle.properties.proofs.lookups.judge.Goals as goal
 
 pub returns-in_default : goal.returns-in_default

@@ -1,6 +1,5 @@
 use Rattle.records.proofs.Chain.{verdicts}
 use Rattle.properties.specs.Ranges.{judge_scalar}
-use borrow.Author.Rules.{rules}
 use Rattle.properties.proofs.lookups.judge_scalar.Goals as goal
 
 pub returns-then-is_bad_scalar : goal.returns-then-is_bad_scalar

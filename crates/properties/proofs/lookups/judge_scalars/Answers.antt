@@ -1,8 +1,4 @@
-use Prim.Native.Nat.{◌-◌}
-use lib.ListN.{length}
-use Rattle.records.specs.Text.{cell}
-use Rattle.records.proofs.Over.{Rest, rests}
-use Rattle.properties.specs.Ranges.{judge_scalar}
+use Rattle.records.proofs.Over.{rests}
 use borrow.Author.Rules.{rules}
 use Rattle.properties.proofs.lookups.judge_scalars.Goals as goal
 

@@ -1,9 +1,8 @@
 use Prim.Native.Nat.{◌-◌}
 use lib.ListN.{length}
 use Rattle.records.specs.Text.{cell}
-use Rattle.records.proofs.Over.{Rest, rests}
+use Rattle.records.proofs.Over.{Rest}
 use Rattle.properties.specs.Ranges.{judge_scalar}
-use borrow.Author.Rules.{rules}
 use Rattle.properties.proofs.lookups.judge_scalars.Given as goal
 
 abbrev pub invariant-loop-i : goal.invariant-loop-i

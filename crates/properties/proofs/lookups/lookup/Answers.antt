@@ -1,5 +1,4 @@
 use Rattle.properties.proofs.Fills.{breaks_room, words_room, looked_refused, looked_whole}
-use borrow.Author.Rules.{rules}
 use Rattle.properties.proofs.lookups.lookup.Goals as goal
 
 pub returns-in_default : goal.returns-in_default

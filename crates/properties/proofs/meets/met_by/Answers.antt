@@ -1,5 +1,4 @@
 use Rattle.properties.proofs.Meetings.{met_nothing, met_refused, met_range}
-use borrow.Author.Rules.{rules}
 use Rattle.properties.proofs.meets.met_by.Goals as goal
 
 pub returns-in-Nothing : goal.returns-in-Nothing

@@ -1,8 +1,7 @@
-use Prim.Native.Nat.{◌≤◌, ◌-◌}
 use mathlib.Core.Path.{refl}
 use native.Mathlib.Omega.{arith}
 use Rattle.properties.specs.Inner.{some}
-use Rattle.properties.proofs.Meetings.{Unmet, held_hit, held_more, held_over}
+use Rattle.properties.proofs.Meetings.{held_hit, held_more, held_over}
 use borrow.Author.Rules.{rules}
 use Rattle.properties.proofs.meets.met_in.Goals as goal
 

@@ -1,9 +1,5 @@
 use Prim.Native.Nat.{◌≤◌, ◌-◌}
-use mathlib.Core.Path.{refl}
-use native.Mathlib.Omega.{arith}
-use Rattle.properties.specs.Inner.{some}
-use Rattle.properties.proofs.Meetings.{Unmet, held_hit, held_more, held_over}
-use borrow.Author.Rules.{rules}
+use Rattle.properties.proofs.Meetings.{Unmet}
 use Rattle.properties.proofs.meets.met_in.Given as goal
 
 abbrev pub invariant-loop-k : goal.invariant-loop-k

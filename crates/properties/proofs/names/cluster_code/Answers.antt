@@ -1,5 +1,4 @@
 use Rattle.cases.specs.Spans.{before, up_to, after}
-use borrow.Author.Rules.{rules}
 use Rattle.properties.proofs.names.cluster_code.Goals as goal
 
 pub returns : goal.returns

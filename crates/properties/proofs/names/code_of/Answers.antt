@@ -1,5 +1,4 @@
 use Rattle.properties.proofs.Tables.{code_new, code_old}
-use borrow.Author.Rules.{rules}
 use Rattle.properties.proofs.names.code_of.Goals as goal
 
 pub returns-in_default : goal.returns-in_default

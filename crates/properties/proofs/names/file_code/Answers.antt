@@ -1,5 +1,4 @@
 use mathlib.Core.Path.{◌∙◌}
-use borrow.Author.Rules.{rules}
 use Rattle.properties.proofs.names.file_code.Goals as goal
 
 pub returns-in-Cluster : goal.returns-in-Cluster

@@ -1,7 +1,5 @@
-use Rattle.properties.proofs.Tables.{Left, left_over, left_found, left_more}
-use lib.ListN.{length}
+use Rattle.properties.proofs.Tables.{left_over, left_found, left_more}
 use mathlib.Core.Path.{refl}
-use Prim.Native.Nat.{◌-◌}
 use borrow.Author.Rules.{rules}
 use Rattle.properties.proofs.names.find.Goals as goal
 

@@ -1,8 +1,6 @@
-use Rattle.properties.proofs.Tables.{Left, left_over, left_found, left_more}
+use Rattle.properties.proofs.Tables.{Left}
 use lib.ListN.{length}
-use mathlib.Core.Path.{refl}
 use Prim.Native.Nat.{◌-◌}
-use borrow.Author.Rules.{rules}
 use Rattle.properties.proofs.names.find.Given as goal
 
 abbrev pub invariant-loop-i : goal.invariant-loop-i

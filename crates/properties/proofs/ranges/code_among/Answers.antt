@@ -1,5 +1,4 @@
 use mathlib.Core.Path.{sym, ◌∙◌}
-use borrow.Author.Rules.{rules}
 use Rattle.properties.proofs.ranges.code_among.Goals as goal
 
 pub search-requires : goal.search-requires

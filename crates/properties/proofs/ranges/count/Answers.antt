@@ -1,6 +1,5 @@
 use mathlib.Core.Path.{◌∙◌}
 use Rattle.properties.specs.Ranges.{count_of}
-use borrow.Author.Rules.{rules}
 use Rattle.properties.proofs.ranges.count.Goals as goal
 
 pub returns : goal.returns

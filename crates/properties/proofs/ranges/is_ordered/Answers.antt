@@ -1,6 +1,5 @@
 use Rattle.basics.proofs.Choices.{chains}
 use Rattle.properties.specs.Inner.{ordered}
-use borrow.Author.Rules.{rules}
 use Rattle.properties.proofs.ranges.is_ordered.Goals as goal
 
 pub returns-then-rises : goal.returns-then-rises

@@ -1,6 +1,4 @@
-use Prim.Native.Nat.{ℕ, ◌≤◌, ◌<◌, ◌-◌}
 use native.Mathlib.Omega.{arith}
-use Rattle.records.specs.Text.{cell}
 use Rattle.properties.proofs.Orders.{place_low, place_high}
 use borrow.Author.Rules.{rules}
 use Rattle.properties.proofs.ranges.place.Goals as goal

@@ -1,8 +1,5 @@
 use Prim.Native.Nat.{ℕ, ◌≤◌, ◌<◌, ◌-◌}
-use native.Mathlib.Omega.{arith}
 use Rattle.records.specs.Text.{cell}
-use Rattle.properties.proofs.Orders.{place_low, place_high}
-use borrow.Author.Rules.{rules}
 use Rattle.properties.proofs.ranges.place.Given as goal
 
 abbrev pub invariant-loop-low : goal.invariant-loop-low

@@ -1,9 +1,6 @@
-use Prim.Native.Nat.{◌≤◌, ◌-◌}
-use mathlib.Core.Path.{◌≡◌, refl}
-use mathlib.Core.Bool.{true}
+use mathlib.Core.Path.{refl}
 use native.Mathlib.Omega.{arith}
 use Rattle.basics.specs.Sets.{every}
-use Rattle.properties.specs.Inner.{cell_before, rises_at}
 use Rattle.properties.proofs.Orders.{rise_fails, rise_more, rise_over, before_next}
 use borrow.Author.Rules.{rules}
 use Rattle.properties.proofs.ranges.rises.Goals as goal

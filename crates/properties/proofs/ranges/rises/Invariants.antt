@@ -1,11 +1,8 @@
 use Prim.Native.Nat.{◌≤◌, ◌-◌}
-use mathlib.Core.Path.{◌≡◌, refl}
+use mathlib.Core.Path.{◌≡◌}
 use mathlib.Core.Bool.{true}
-use native.Mathlib.Omega.{arith}
 use Rattle.basics.specs.Sets.{every}
 use Rattle.properties.specs.Inner.{cell_before, rises_at}
-use Rattle.properties.proofs.Orders.{rise_fails, rise_more, rise_over, before_next}
-use borrow.Author.Rules.{rules}
 use Rattle.properties.proofs.ranges.rises.Given as goal
 
 abbrev pub invariant-loop-i : goal.invariant-loop-i

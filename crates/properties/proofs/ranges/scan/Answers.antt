@@ -1,6 +1,4 @@
-use Prim.Native.Nat.{◌≤◌, ◌-◌}
-use Rattle.properties.specs.Ranges.{ranges}
-use Rattle.properties.proofs.Hits.{Scanned, scan_all, scan_over, scan_hit, scan_pass}
+use Rattle.properties.proofs.Hits.{scan_all, scan_over, scan_hit, scan_pass}
 use borrow.Author.Rules.{rules}
 use Rattle.properties.proofs.ranges.scan.Goals as goal
 

@@ -1,7 +1,6 @@
 use Prim.Native.Nat.{◌≤◌, ◌-◌}
 use Rattle.properties.specs.Ranges.{ranges}
-use Rattle.properties.proofs.Hits.{Scanned, scan_all, scan_over, scan_hit, scan_pass}
-use borrow.Author.Rules.{rules}
+use Rattle.properties.proofs.Hits.{Scanned}
 use Rattle.properties.proofs.ranges.scan.Given as goal
 
 abbrev pub invariant-loop-i : goal.invariant-loop-i

@@ -1,6 +1,5 @@
 use Rattle.properties.proofs.Hits.{place_none, place_hit, place_gap}
 use Rattle.properties.proofs.Fills.{lasts_rise}
-use borrow.Author.Rules.{rules}
 use Rattle.properties.proofs.ranges.search.Goals as goal
 
 pub place-at-requires : goal.place-at-requires

@@ -1,6 +1,5 @@
 use mathlib.Core.Path.{◌∙◌}
 use Rattle.properties.specs.Reading.{cells_of}
-use borrow.Author.Rules.{rules}
 use Rattle.properties.proofs.reading.cells_of.Goals as goal
 
 pub returns : goal.returns

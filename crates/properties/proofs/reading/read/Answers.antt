@@ -1,5 +1,4 @@
 use Rattle.properties.proofs.Outcomes.{read_long, read_over, read_lines}
-use borrow.Author.Rules.{rules}
 use Rattle.properties.proofs.reading.read.Goals as goal
 
 pub returns-then-bytes-gt-MOST : goal.returns-then-bytes-gt-MOST

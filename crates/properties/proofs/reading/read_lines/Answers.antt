@@ -4,7 +4,6 @@ use native.Mathlib.Nat.{le_of_eq}
 use lib.ListN.{length-replicate}
 use native.Mathlib.Omega.{arith}
 use Rattle.properties.proofs.Outcomes.{readable_reach, lines_refused, lines_stored}
-use borrow.Author.Rules.{rules}
 use Rattle.properties.proofs.reading.read_lines.Goals as goal
 
 pub collect-collected-requires : goal.collect-collected-requires

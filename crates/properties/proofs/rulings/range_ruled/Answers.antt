@@ -1,5 +1,4 @@
 use Rattle.properties.proofs.Rules.{range_found}
-use borrow.Author.Rules.{rules}
 use Rattle.properties.proofs.rulings.range_ruled.Goals as goal
 
 pub returns-in-Found : goal.returns-in-Found

@@ -1,5 +1,4 @@
 use Rattle.properties.proofs.Rules.{ruled_skipped, ruled_malformed, ruled_range}
-use borrow.Author.Rules.{rules}
 use Rattle.properties.proofs.rulings.ruling_of.Goals as goal
 
 pub returns-in-Skipped : goal.returns-in-Skipped

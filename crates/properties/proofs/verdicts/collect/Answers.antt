@@ -1,8 +1,6 @@
-use Prim.Native.Nat.{◌-◌}
-use mathlib.Core.Path.{◌≡◌, refl}
+use mathlib.Core.Path.{refl}
 use native.Mathlib.Omega.{arith}
-use lib.ListN.{length}
-use Rattle.properties.proofs.Turns.{Turn, turns_start, turn_refused, turn_goes, turns_end, next_is_lem}
+use Rattle.properties.proofs.Turns.{turns_start, turn_refused, turn_goes, turns_end, next_is_lem}
 use borrow.Author.Rules.{rules}
 use Rattle.properties.proofs.verdicts.collect.Goals as goal
 

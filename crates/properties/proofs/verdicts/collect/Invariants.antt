@@ -1,9 +1,7 @@
 use Prim.Native.Nat.{◌-◌}
-use mathlib.Core.Path.{◌≡◌, refl}
-use native.Mathlib.Omega.{arith}
+use mathlib.Core.Path.{◌≡◌}
 use lib.ListN.{length}
-use Rattle.properties.proofs.Turns.{Turn, turns_start, turn_refused, turn_goes, turns_end, next_is_lem}
-use borrow.Author.Rules.{rules}
+use Rattle.properties.proofs.Turns.{Turn}
 use Rattle.properties.proofs.verdicts.collect.Given as goal
 
 abbrev pub invariant-loop-at : goal.invariant-loop-at

@@ -1,5 +1,4 @@
 use Rattle.properties.proofs.Meetings.{judged_refused, judged_before, judged_earlier, judged_full}
-use borrow.Author.Rules.{rules}
 use Rattle.properties.proofs.verdicts.judge_ruling.Goals as goal
 
 pub returns-then-before : goal.returns-then-before

@@ -1,5 +1,4 @@
 use Rattle.properties.proofs.Notes.{noted_nothing, noted_refused, noted_range}
-use borrow.Author.Rules.{rules}
 use Rattle.properties.proofs.verdicts.note.Goals as goal
 
 pub returns-in-Nothing : goal.returns-in-Nothing

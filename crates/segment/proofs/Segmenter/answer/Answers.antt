@@ -1,5 +1,4 @@
 use Rattle.segment.proofs.CallLaws.{answer_past, answer_over, answer_found}
-use borrow.Author.Rules.{rules}
 use Rattle.segment.proofs.Segmenter.answer.Goals as goal
 
 pub returns-then-text-at : goal.returns-then-text-at

@@ -1,5 +1,4 @@
 use Rattle.segment.specs.Calls.{end}
-use borrow.Author.Rules.{rules}
 use Rattle.segment.proofs.Segmenter.end.Goals as goal
 
 pub returns : goal.returns

@@ -1,5 +1,4 @@
 use Rattle.segment.specs.Calls.{found}
-use borrow.Author.Rules.{rules}
 use Rattle.segment.proofs.Segmenter.found.Goals as goal
 
 pub returns : goal.returns

@@ -1,5 +1,4 @@
 use Rattle.segment.proofs.CallLaws.{count_fits}
-use borrow.Author.Rules.{rules}
 use Rattle.segment.proofs.Segmenter.next_accepted.Goals as goal
 
 pub returns : goal.returns

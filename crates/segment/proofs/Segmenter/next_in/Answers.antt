@@ -1,5 +1,4 @@
 use Rattle.segment.proofs.CallLaws.{next_accepted, next_refused}
-use borrow.Author.Rules.{rules}
 use Rattle.segment.proofs.Segmenter.next_in.Goals as goal
 
 pub returns-in_default : goal.returns-in_default

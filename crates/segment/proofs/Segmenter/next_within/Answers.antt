@@ -3,7 +3,6 @@ use Rattle.segment.proofs.CallLaws.{all_fits}
 use native.Mathlib.Omega.{arith}
 use lib.Seq.{length-take-le}
 use mathlib.Core.Path.{sym, ◌∙◌, ap}
-use borrow.Author.Rules.{rules}
 use Rattle.segment.proofs.Segmenter.next_within.Goals as goal
 
 pub slice_bounds-answer-end-2 : goal.slice_bounds-answer-end-2

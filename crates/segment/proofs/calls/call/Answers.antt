@@ -2,7 +2,6 @@ use mathlib.Core.Path.{◌∙◌, ap, sym}
 use Rattle.complex.specs.Grammar.{cluster}
 use Rattle.segment.proofs.CallLaws.{call_is, complex_is}
 use Rattle.segment.specs.Calls.{grammar}
-use borrow.Author.Rules.{rules}
 use Rattle.segment.proofs.calls.call.Goals as goal
 
 pub returns-in-Simple : goal.returns-in-Simple

@@ -1,7 +1,6 @@
 use mathlib.Core.Path.{refl}
 use Rattle.tables.specs.Symbols.{table_of}
 use Rattle.tables.specs.KhmerTable.{khmer_table}
-use borrow.Author.Rules.{rules}
 use Rattle.segment.proofs.direct.by_khmer.Goals as goal
 
 pub by_use-requires : goal.by_use-requires

@@ -3,13 +3,11 @@ use Rattle.segment.proofs.Reading.{seen_long, index_seen}
 use mathlib.Core.Path.{refl, sym, ◌∙◌}
 use native.Mathlib.Omega.{arith}
 use Rattle.records.specs.Text.{text_in}
-use Rattle.tables.specs.Symbols.{Regular, table_of}
-use Rattle.segment.specs.Inner.{Roomy}
+use Rattle.tables.specs.Symbols.{table_of}
 use Rattle.segment.specs.Seen.{seen_by}
 use Rattle.segment.proofs.TableLaws.{cell_index}
-use Rattle.segment.proofs.Loops.{Goes, goes_start, goes_refill, goes_end, goes_row, goes_room, goes_leave, goes_turn, looked_up, left, is_filled, refill_falls, turn_falls, turn_inside}
+use Rattle.segment.proofs.Loops.{goes_start, goes_refill, goes_end, goes_row, goes_room, goes_leave, goes_turn, looked_up, is_filled, refill_falls, turn_falls, turn_inside}
 use Rattle.tables.specs.MyanmarTable.{myanmar_table}
-use borrow.Author.Rules.{rules}
 use Rattle.segment.proofs.direct.by_myanmar.Goals as goal
 
 pub loop-scalars-init : goal.loop-scalars-init

@@ -1,15 +1,9 @@
 use Rattle.records.specs.declared.Parser.TheVariants.{Simple}
-use Rattle.segment.proofs.Reading.{seen_long, index_simple}
-use mathlib.Core.Path.{refl, sym, ◌∙◌}
-use native.Mathlib.Omega.{arith}
 use Rattle.records.specs.Text.{text_in}
-use Rattle.tables.specs.Symbols.{Regular, table_of}
+use Rattle.tables.specs.Symbols.{Regular}
 use Rattle.segment.specs.Inner.{Roomy}
 use Rattle.segment.specs.Seen.{seen_by}
-use Rattle.segment.proofs.TableLaws.{cell_index}
-use Rattle.segment.proofs.Loops.{Goes, goes_start, goes_refill, goes_end, goes_row, goes_room, goes_leave, goes_turn, goes_over, looked_up, left, is_filled, refill_falls, over_falls, turn_falls, turn_inside}
-use Rattle.tables.specs.SimpleTable.{simple_table}
-use borrow.Author.Rules.{rules}
+use Rattle.segment.proofs.Loops.{Goes, left}
 use Rattle.segment.proofs.direct.by_simple.Given as goal
 
 abbrev pub invariant-loop-scalars : goal.invariant-loop-scalars

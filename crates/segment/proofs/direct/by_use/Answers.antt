@@ -2,13 +2,10 @@ use Rattle.segment.proofs.Reading.{seen_long, index_use, joins_use, kinds_use, e
 use mathlib.Core.Path.{refl, sym, ◌∙◌, ap}
 use native.Mathlib.Omega.{arith}
 use Rattle.records.specs.Text.{text_in}
-use Rattle.tables.specs.Symbols.{Regular}
-use Rattle.segment.specs.Inner.{Roomy}
 use Rattle.segment.specs.Seen.{seen_by, use_parser}
 use Rattle.segment.proofs.TableLaws.{cell_index}
-use Rattle.segment.proofs.Loops.{crowds_use, Goes, goes_start, goes_refill, goes_end, goes_row, goes_room, goes_leave, goes_turn, looked_up, left, is_filled, refill_falls, turn_falls, turn_inside}
+use Rattle.segment.proofs.Loops.{crowds_use, goes_start, goes_refill, goes_end, goes_row, goes_room, goes_leave, goes_turn, looked_up, is_filled, refill_falls, turn_falls, turn_inside}
 use Rattle.parse.specs.State.{token_at}
-use borrow.Author.Rules.{rules}
 use Rattle.segment.proofs.direct.by_use.Goals as goal
 
 pub loop-scalars-init : goal.loop-scalars-init

@@ -2,7 +2,6 @@ use mathlib.Core.Path.{subst}
 use Rattle.records.specs.Text.{text_in}
 use Rattle.segment.specs.Standing.{Ready}
 use Rattle.segment.proofs.Standings.{reached_as}
-use borrow.Author.Rules.{rules}
 use Rattle.segment.proofs.direct.direct.Goals as goal
 
 pub by_simple-requires : goal.by_simple-requires

@@ -1,5 +1,4 @@
 use Rattle.segment.specs.Seen.{ends_in}
-use borrow.Author.Rules.{rules}
 use Rattle.segment.proofs.direct.ends_at.Goals as goal
 
 pub returns-in-Crate : goal.returns-in-Crate

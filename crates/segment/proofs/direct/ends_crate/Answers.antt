@@ -1,6 +1,5 @@
 use Rattle.segment.specs.Seen.{ends_in}
 use borrow.Author.Tests.{lt-ltb, le-ltb}
-use borrow.Author.Rules.{rules}
 use Rattle.segment.proofs.direct.ends_crate.Goals as goal
 
 pub returns-then-i-scalars : goal.returns-then-i-scalars

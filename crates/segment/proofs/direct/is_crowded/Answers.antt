@@ -1,5 +1,4 @@
 use Rattle.segment.proofs.Reading.{crowd_here, crowd_room, crowd_row}
-use borrow.Author.Rules.{rules}
 use Rattle.segment.proofs.direct.is_crowded.Goals as goal
 
 pub returns-then-has_last_cell : goal.returns-then-has_last_cell

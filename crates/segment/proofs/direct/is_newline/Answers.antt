@@ -1,5 +1,4 @@
 use Rattle.segment.proofs.Reading.{newline_marked, newline_next, newline_last, newline_none}
-use borrow.Author.Rules.{rules}
 use Rattle.segment.proofs.direct.is_newline.Goals as goal
 
 pub returns-then-emoji-eq1 : goal.returns-then-emoji-eq1

@@ -1,6 +1,5 @@
 use Rattle.segment.specs.Seen.{kinzi_in}
 use borrow.Author.Tests.{eq-eqb, ne_eqb}
-use borrow.Author.Rules.{rules}
 use Rattle.segment.proofs.direct.kinzi_at.Goals as goal
 
 pub returns-then-cell32-eq-ASAT : goal.returns-then-cell32-eq-ASAT

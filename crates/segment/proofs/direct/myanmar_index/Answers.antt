@@ -1,6 +1,5 @@
 use Rattle.segment.specs.Seen.{myanmar_index}
 use borrow.Author.Tests.{lt-ltb, le-ltb}
-use borrow.Author.Rules.{rules}
 use Rattle.segment.proofs.direct.myanmar_index.Goals as goal
 
 pub returns-then-row-lt34 : goal.returns-then-row-lt34

@@ -2,7 +2,6 @@ use Rattle.segment.specs.Seen.{myanmar_seen}
 use Rattle.tables.specs.Symbols.{myanmar_in}
 use native.Mathlib.Omega.{arith}
 use borrow.Author.Tests.{eq-eqb, ne_eqb}
-use borrow.Author.Rules.{rules}
 use Rattle.segment.proofs.direct.myanmar_symbol.Goals as goal
 
 pub returns-then-emoji-eq1 : goal.returns-then-emoji-eq1

@@ -1,5 +1,4 @@
 use Rattle.segment.proofs.Reading.{token_read}
-use borrow.Author.Rules.{rules}
 use Rattle.segment.proofs.direct.token_at.Goals as goal
 
 pub returns : goal.returns

@@ -1,6 +1,5 @@
 use Rattle.tables.specs.Symbols.{use_index}
 use borrow.Author.Tests.{lt-ltb, le-ltb}
-use borrow.Author.Rules.{rules}
 use Rattle.segment.proofs.direct.use_index.Goals as goal
 
 pub returns-then-row-lt34 : goal.returns-then-row-lt34

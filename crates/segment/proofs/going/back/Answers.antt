@@ -1,5 +1,4 @@
 use Rattle.segment.specs.Going.{back_of}
-use borrow.Author.Rules.{rules}
 use Rattle.segment.proofs.going.back.Goals as goal
 
 pub returns-in-Crate : goal.returns-in-Crate

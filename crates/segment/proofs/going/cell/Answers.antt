@@ -1,5 +1,4 @@
 use Rattle.tables.specs.Symbols.{cell_at}
-use borrow.Author.Rules.{rules}
 use Rattle.segment.proofs.going.cell.Goals as goal
 
 pub returns-then-joining : goal.returns-then-joining

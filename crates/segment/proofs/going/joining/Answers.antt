@@ -1,5 +1,4 @@
 use borrow.Author.Tests.{eq-eqb, ne_eqb}
-use borrow.Author.Rules.{rules}
 use Rattle.segment.proofs.going.joining.Goals as goal
 
 pub returns-then-x-eq-CGJ : goal.returns-then-x-eq-CGJ

@@ -1,6 +1,5 @@
 use Rattle.segment.specs.Going.{stop_of}
 use borrow.Author.Tests.{eq-eqb, ne_eqb}
-use borrow.Author.Rules.{rules}
 use Rattle.segment.proofs.going.stop_of.Goals as goal
 
 pub returns-then-what-eq1 : goal.returns-then-what-eq1

@@ -4,13 +4,10 @@ use native.Mathlib.Omega.{arith}
 use borrow.Author.Tests.{eqb-false}
 use Rattle.records.specs.Text.{text_in}
 use Rattle.stream.specs.Stream.{split_tokens}
-use Rattle.tables.specs.Symbols.{Regular}
-use Rattle.segment.specs.Inner.{Roomy}
 use Rattle.segment.specs.Seen.{use_parser}
 use Rattle.segment.proofs.TableLaws.{cell_index}
-use Rattle.segment.proofs.Loops.{crowds_use, Goes, goes_start, goes_refill, goes_end, goes_row, goes_room, goes_leave, goes_turn, looked_up, left, is_filled, refill_falls, turn_falls, turn_inside}
-use Rattle.segment.proofs.Partings.{Placed, placed_start, placed_refill, placed_inside, placed_token, placed_turn}
-use borrow.Author.Rules.{rules}
+use Rattle.segment.proofs.Loops.{crowds_use, goes_start, goes_refill, goes_end, goes_row, goes_room, goes_leave, goes_turn, looked_up, is_filled, refill_falls, turn_falls, turn_inside}
+use Rattle.segment.proofs.Partings.{placed_start, placed_refill, placed_inside, placed_token, placed_turn}
 use Rattle.segment.proofs.parted.by_parts.Goals as goal
 
 pub loop-scalars-init : goal.loop-scalars-init

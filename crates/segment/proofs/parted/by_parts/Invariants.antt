@@ -1,16 +1,10 @@
-use Rattle.segment.proofs.Reading.{index_use, joins_use, even_use}
-use mathlib.Core.Path.{refl, sym, ◌∙◌}
-use native.Mathlib.Omega.{arith}
-use borrow.Author.Tests.{eqb-false}
 use Rattle.records.specs.Text.{text_in}
 use Rattle.stream.specs.Stream.{split_tokens}
 use Rattle.tables.specs.Symbols.{Regular}
 use Rattle.segment.specs.Inner.{Roomy}
 use Rattle.segment.specs.Seen.{use_parser}
-use Rattle.segment.proofs.TableLaws.{cell_index}
-use Rattle.segment.proofs.Loops.{crowds_use, Goes, goes_start, goes_refill, goes_end, goes_row, goes_room, goes_leave, goes_turn, looked_up, left, is_filled, refill_falls, turn_falls, turn_inside}
-use Rattle.segment.proofs.Partings.{Placed, placed_start, placed_refill, placed_inside, placed_token, placed_turn}
-use borrow.Author.Rules.{rules}
+use Rattle.segment.proofs.Loops.{Goes, left}
+use Rattle.segment.proofs.Partings.{Placed}
 use Rattle.segment.proofs.parted.by_parts.Given as goal
 
 abbrev pub invariant-loop-scalars : goal.invariant-loop-scalars

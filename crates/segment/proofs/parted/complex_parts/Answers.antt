@@ -4,7 +4,6 @@ use Rattle.records.specs.Text.{text_in}
 use Rattle.tables.specs.Symbols.{table_of}
 use Rattle.tables.specs.ComplexTable.{complex_table}
 use Rattle.segment.proofs.Partings.{apart, parts_reached}
-use borrow.Author.Rules.{rules}
 use Rattle.segment.proofs.parted.complex_parts.Goals as goal
 
 pub by_parts-requires : goal.by_parts-requires

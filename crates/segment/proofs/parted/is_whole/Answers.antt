@@ -1,6 +1,5 @@
 use borrow.Author.Tests.{eq-eqb, ne_eqb}
 use Rattle.segment.specs.Parted.{is_whole}
-use borrow.Author.Rules.{rules}
 use Rattle.segment.proofs.parted.is_whole.Goals as goal
 
 pub returns-then-decompose-eq1 : goal.returns-then-decompose-eq1

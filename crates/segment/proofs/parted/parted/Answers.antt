@@ -1,7 +1,6 @@
 use Rattle.records.specs.Text.{text_in}
 use Rattle.segment.proofs.CallTurns.{run_starts}
 use Rattle.segment.proofs.Partings.{parting_as, reached_by}
-use borrow.Author.Rules.{rules}
 use Rattle.segment.proofs.parted.parted.Goals as goal
 
 pub complex_parts-requires : goal.complex_parts-requires

@@ -1,7 +1,6 @@
 use mathlib.Core.Path.{◌∙◌}
 use borrow.Author.Tests.{eq-eqb, ne_eqb}
 use Rattle.segment.specs.Parted.{spot_after}
-use borrow.Author.Rules.{rules}
 use Rattle.segment.proofs.parted.spot_after.Goals as goal
 
 pub returns-then-v-eq3 : goal.returns-then-v-eq3

@@ -1,7 +1,6 @@
 use mathlib.Core.Path.{refl}
 use Rattle.records.specs.Text.{text_in}
 use Rattle.segment.proofs.Partings.{read_whole, read_split}
-use borrow.Author.Rules.{rules}
 use Rattle.segment.proofs.parted.taken_at.Goals as goal
 
 pub returns-then-is_whole : goal.returns-then-is_whole

@@ -3,13 +3,7 @@ use mathlib.Core.Path.{◌≡◌}
 use mathlib.Core.Bool.{true}
 use lib.ListN.{length}
 use Rattle.records.specs.Text.{cell}
-use Rattle.records.proofs.Passing.{joined_more}
 use Rattle.tables.specs.Symbols.{regular_use}
-use Rattle.segment.specs.Seen.{Single}
-use Rattle.segment.proofs.Regulars.{each_all}
-use borrow.Author.Tests.{eqb-true}
-use native.Mathlib.Omega.{arith}
-use borrow.Author.Rules.{rules}
 use Rattle.segment.proofs.regular.all_parts.Given as goal
 
 abbrev pub invariant-loop-i : goal.invariant-loop-i

@@ -1,9 +1,4 @@
-use Prim.Native.Nat.{ℕ, ◌-◌, ◌<◌}
-use mathlib.Core.Path.{◌≡◌, sym, ◌∙◌}
-use mathlib.Core.Bool.{true}
-use lib.ListN.{length}
-use Rattle.parse.specs.State.{token_at}
-use Rattle.tables.specs.Symbols.{use_regular}
+use mathlib.Core.Path.{sym, ◌∙◌}
 use Rattle.records.proofs.Passing.{each_more, not_so}
 use Rattle.segment.proofs.Regulars.{regular_tokens}
 use native.Mathlib.Omega.{arith}

@@ -1,13 +1,9 @@
 use Prim.Native.Nat.{ℕ, ◌-◌, ◌<◌}
-use mathlib.Core.Path.{◌≡◌, sym, ◌∙◌}
+use mathlib.Core.Path.{◌≡◌}
 use mathlib.Core.Bool.{true}
 use lib.ListN.{length}
 use Rattle.parse.specs.State.{token_at}
 use Rattle.tables.specs.Symbols.{use_regular}
-use Rattle.records.proofs.Passing.{each_more, not_so}
-use Rattle.segment.proofs.Regulars.{regular_tokens}
-use native.Mathlib.Omega.{arith}
-use borrow.Author.Rules.{rules}
 use Rattle.segment.proofs.regular.all_regular.Given as goal
 
 abbrev pub invariant-loop-i : goal.invariant-loop-i

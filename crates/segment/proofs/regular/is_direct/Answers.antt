@@ -2,7 +2,6 @@ use Rattle.segment.proofs.Regulars.{even, direct_simple, direct_myanmar, direct_
 use Rattle.records.specs.declared.Parser.TheVariants.{Myanmar}
 use Rattle.records.specs.Text.{text_in}
 use mathlib.Core.Bool.{true, false}
-use borrow.Author.Rules.{rules}
 use Rattle.segment.proofs.regular.is_direct.Goals as goal
 
 pub all_myanmar-requires : goal.all_myanmar-requires

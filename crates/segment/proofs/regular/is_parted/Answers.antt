@@ -2,7 +2,6 @@ use Rattle.segment.proofs.Regulars.{parted_use}
 use Rattle.records.specs.Text.{text_in}
 use Rattle.records.proofs.Passing.{not_so}
 use mathlib.Core.Bool.{true, false}
-use borrow.Author.Rules.{rules}
 use Rattle.segment.proofs.regular.is_parted.Goals as goal
 
 pub returns-then-direct : goal.returns-then-direct

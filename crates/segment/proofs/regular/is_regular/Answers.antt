@@ -1,6 +1,5 @@
 use Rattle.tables.specs.Symbols.{use_regular}
 use borrow.Author.Tests.{lt-ltb, le-ltb}
-use borrow.Author.Rules.{rules}
 use Rattle.segment.proofs.regular.is_regular.Goals as goal
 
 pub returns-then-kind-lt-LEN : goal.returns-then-kind-lt-LEN

@@ -1,5 +1,4 @@
 use native.Mathlib.Omega.{arith}
-use borrow.Author.Rules.{rules}
 use Rattle.segment.proofs.regular.number.Goals as goal
 
 pub returns-then-b : goal.returns-then-b

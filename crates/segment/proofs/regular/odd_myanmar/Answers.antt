@@ -1,6 +1,5 @@
 use mathlib.Core.Path.{◌∙◌, sym}
 use native.Mathlib.Omega.{arith}
-use borrow.Author.Rules.{rules}
 use Rattle.segment.proofs.regular.odd_myanmar.Goals as goal
 
 pub returns-then-is_regular_myanmar : goal.returns-then-is_regular_myanmar

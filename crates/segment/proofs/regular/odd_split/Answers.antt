@@ -2,7 +2,6 @@ use mathlib.Core.Path.{◌≡◌, ◌∙◌, sym}
 use native.Mathlib.Omega.{arith}
 use lib.Bits.{bit_or, or_add_and, and_le_l, and_le_r}
 use Prim.Native.Nat.{ℕ}
-use borrow.Author.Rules.{rules}
 use Rattle.segment.proofs.regular.odd_split.Goals as goal
 
 -- both numbers are 0 where the joined one is

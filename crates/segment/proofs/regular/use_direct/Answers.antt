@@ -2,7 +2,6 @@ use Rattle.records.specs.Text.{text_in}
 use Rattle.records.specs.declared.Parser.TheVariants.{Complex}
 use Rattle.records.proofs.Passing.{not_so}
 use Rattle.segment.proofs.Regulars.{even, marks_long}
-use borrow.Author.Rules.{rules}
 use Rattle.segment.proofs.regular.use_direct.Goals as goal
 
 pub all_single-requires : goal.all_single-requires

@@ -2,7 +2,6 @@ use Rattle.records.specs.Text.{text_in}
 use Rattle.records.specs.declared.Parser.TheVariants.{Complex}
 use Rattle.records.proofs.Passing.{not_so}
 use Rattle.segment.proofs.Regulars.{even, parts_long}
-use borrow.Author.Rules.{rules}
 use Rattle.segment.proofs.regular.use_parted.Goals as goal
 
 pub all_parts-requires : goal.all_parts-requires

@@ -1,6 +1,5 @@
 use Rattle.records.specs.Text.{text_in}
 use Rattle.segment.proofs.Standings.{ready_direct, begun_direct}
-use borrow.Author.Rules.{rules}
 use Rattle.segment.proofs.runs.begin.Goals as goal
 
 pub direct-requires : goal.direct-requires

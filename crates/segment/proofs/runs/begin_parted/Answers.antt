@@ -1,5 +1,4 @@
 use Rattle.segment.proofs.CallTurns.{run_starts}
-use borrow.Author.Rules.{rules}
 use Rattle.segment.proofs.runs.begin_parted.Goals as goal
 
 pub parted-requires : goal.parted-requires

@@ -1,12 +1,8 @@
 use Prim.Native.Nat.{◌-◌, ℕ}
-use native.Mathlib.Omega.{arith}
 use mathlib.Core.List.{List}
-use mathlib.Core.Path.{◌∙◌, sym}
 use lib.ListN.{length}
 use Rattle.segment.specs.Inner.{Roomy}
 use Rattle.segment.specs.Standing.{Running, Stood}
-use Rattle.segment.proofs.CallTurns.{run_fits, run_turn, run_falls, run_over}
-use borrow.Author.Rules.{rules}
 use Rattle.segment.proofs.runs.finish.Given as goal
 
 abbrev pub invariant-loop-at : goal.invariant-loop-at

@@ -3,7 +3,6 @@ use Rattle.records.specs.Text.{text_in}
 use Rattle.stream.proofs.Accepted.{stream_room}
 use Rattle.segment.proofs.Outcomes.{no_room, with_room}
 use Rattle.segment.proofs.Standings.{room_made}
-use borrow.Author.Rules.{rules}
 use Rattle.segment.proofs.runs.run_accepted.Goals as goal
 
 pub token_count-tokens-requires : goal.token_count-tokens-requires

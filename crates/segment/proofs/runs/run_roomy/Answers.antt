@@ -1,6 +1,5 @@
 use native.Mathlib.Omega.{arith}
 use Rattle.segment.proofs.CallTurns.{run_over}
-use borrow.Author.Rules.{rules}
 use Rattle.segment.proofs.runs.run_roomy.Goals as goal
 
 pub run_array-requires : goal.run_array-requires

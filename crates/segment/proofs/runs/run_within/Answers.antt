@@ -3,7 +3,6 @@ use native.Mathlib.Omega.{arith}
 use lib.Seq.{length-take-le}
 use Rattle.segment.proofs.CallLaws.{all_fits}
 use Rattle.segment.proofs.Standings.{stands_in_lem, stands_on, finished_on}
-use borrow.Author.Rules.{rules}
 use Rattle.segment.proofs.runs.run_within.Goals as goal
 
 pub slice_bounds-text-end-2 : goal.slice_bounds-text-end-2

@@ -3,7 +3,6 @@ use Rattle.segment.proofs.CallLaws.{counted}
 use Rattle.stream.proofs.Accepted.{few}
 use mathlib.Core.Path.{◌∙◌}
 use Rattle.records.specs.Text.{text_in}
-use borrow.Author.Rules.{rules}
 use Rattle.segment.proofs.runs.token_count.Goals as goal
 
 pub returns-then-direct : goal.returns-then-direct

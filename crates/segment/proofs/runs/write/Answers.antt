@@ -1,10 +1,10 @@
 use mathlib.Core.Path.{refl}
-use Prim.Native.Nat.{◌≤◌, ◌<◌, ◌-◌}
+use Prim.Native.Nat.{◌<◌}
 use native.Mathlib.Omega.{arith}
 use lib.ListN.{length}
 use Rattle.parse.specs.State.{nothing}
 use Rattle.segment.specs.Runs.{scalar_in, class_in, cluster_in}
-use Rattle.segment.proofs.Written.{Cells, cells_more, cells_all}
+use Rattle.segment.proofs.Written.{cells_more, cells_all}
 use borrow.Author.Rules.{rules}
 use Rattle.segment.proofs.runs.write.Goals as goal
 

@@ -1,11 +1,6 @@
-use mathlib.Core.Path.{refl}
-use Prim.Native.Nat.{◌≤◌, ◌<◌, ◌-◌}
-use native.Mathlib.Omega.{arith}
-use lib.ListN.{length}
-use Rattle.parse.specs.State.{nothing}
+use Prim.Native.Nat.{◌≤◌, ◌-◌}
 use Rattle.segment.specs.Runs.{scalar_in, class_in, cluster_in}
-use Rattle.segment.proofs.Written.{Cells, cells_more, cells_all}
-use borrow.Author.Rules.{rules}
+use Rattle.segment.proofs.Written.{Cells}
 use Rattle.segment.proofs.runs.write.Given as goal
 
 abbrev pub invariant-loop-j : goal.invariant-loop-j

@@ -1,4 +1,3 @@
-use borrow.Author.Rules.{rules}
 use Rattle.segment.proofs.streams.count_of.Goals as goal
 
 pub returns-in-Simple : goal.returns-in-Simple

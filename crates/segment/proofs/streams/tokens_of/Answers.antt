@@ -1,6 +1,5 @@
 use Rattle.segment.proofs.CallLaws.{by_parts, stream_simple, stream_myanmar, stream_complex, stream_khmer}
 use Rattle.records.specs.Text.{text_in}
-use borrow.Author.Rules.{rules}
 use Rattle.segment.proofs.streams.tokens_of.Goals as goal
 
 pub returns-in-Simple : goal.returns-in-Simple

@@ -1,13 +1,7 @@
-use Rattle.segment.proofs.Reading.{index_use, joins_use}
-use mathlib.Core.Path.{refl}
-use native.Mathlib.Omega.{arith}
-use lib.ListN.{length}
 use Rattle.tables.specs.Symbols.{Regular}
 use Rattle.segment.specs.Inner.{Roomy}
-use Rattle.segment.proofs.TableLaws.{cell_index}
-use Rattle.segment.proofs.Loops.{crowds_use, Goes, goes_start, goes_refill, goes_end, goes_row, goes_room, goes_leave, goes_turn, looked_up, left, is_filled, refill_falls, turn_falls, turn_inside}
+use Rattle.segment.proofs.Loops.{Goes, left}
 use Rattle.segment.specs.Seen.{use_parser}
-use borrow.Author.Rules.{rules}
 use Rattle.segment.proofs.tabled.by_tokens.Given as goal
 
 abbrev pub invariant-loop-mode : goal.invariant-loop-mode

@@ -2,7 +2,6 @@ use mathlib.Core.Path.{refl}
 use Rattle.tables.specs.Symbols.{table_of}
 use Rattle.tables.specs.KhmerTable.{khmer_table}
 use Rattle.segment.proofs.CallTurns.{run_starts}
-use borrow.Author.Rules.{rules}
 use Rattle.segment.proofs.tabled.khmer_tokens.Goals as goal
 
 pub by_tokens-requires : goal.by_tokens-requires

@@ -1,6 +1,5 @@
 use native.Mathlib.Omega.{arith}
 use Rattle.segment.proofs.Standings.{still_roomy, onward_from}
-use borrow.Author.Rules.{rules}
 use Rattle.segment.proofs.tabled.tabled.Goals as goal
 
 pub returns-then-from-gt0 : goal.returns-then-from-gt0

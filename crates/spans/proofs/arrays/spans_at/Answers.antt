@@ -1,6 +1,5 @@
 use Rattle.records.specs.Text.{text_in}
 use Rattle.segment.proofs.CallLaws.{fits_in}
-use borrow.Author.Rules.{rules}
 use Rattle.spans.proofs.arrays.spans_at.Goals as goal
 
 pub spans_long-requires : goal.spans_long-requires

@@ -5,7 +5,6 @@ use Rattle.records.specs.Text.{text_in}
 use Rattle.segment.proofs.CallLaws.{all_fits}
 use Rattle.spans.specs.Offsets.{offset_of}
 use Rattle.spans.proofs.Steps.{spans_by}
-use borrow.Author.Rules.{rules}
 use Rattle.spans.proofs.arrays.spans_within.Goals as goal
 
 pub slice_bounds-spans-end-2 : goal.slice_bounds-spans-end-2

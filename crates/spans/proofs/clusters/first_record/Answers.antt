@@ -1,7 +1,4 @@
 use Rattle.spans.proofs.Along.{first_some}
-use borrow.Author.Rules.{rules}
-use Rattle.spans.proofs.clusters.first_record.Reads as reads
-use Rattle.spans.proofs.clusters.first_record.Lts as lts
 use Rattle.spans.proofs.clusters.first_record.Goals as goal
 
 -- src/clusters.rt:36:1

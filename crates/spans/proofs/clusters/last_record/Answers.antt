@@ -1,8 +1,4 @@
 use Rattle.basics.proofs.Choices.{choices}
-use borrow.Author.Rules.{rules}
-use Rattle.spans.proofs.clusters.last_record.Reads as reads
-use Rattle.spans.proofs.clusters.last_record.Lts as lts
-use Rattle.spans.proofs.clusters.record_at.Reads as record-at-reads
 use Rattle.spans.proofs.clusters.last_record.Goals as goal
 
 -- src/clusters.rt:30:9

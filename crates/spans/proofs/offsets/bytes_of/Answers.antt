@@ -1,7 +1,5 @@
 use Rattle.basics.proofs.Choices.{choices}
 use Rattle.spans.specs.Offsets.{bytes_of}
-use Rattle.spans.proofs.offsets.bytes_of.Reads as reads
-use Rattle.spans.proofs.offsets.bytes_of.Lts as lts
 use Rattle.spans.proofs.offsets.bytes_of.Goals as goal
 
 -- src/offsets.rt:12:9

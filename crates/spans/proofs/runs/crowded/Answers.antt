@@ -1,5 +1,4 @@
 use Rattle.spans.proofs.Outcomes.{crowded_room, crowded_check}
-use borrow.Author.Rules.{rules}
 use Rattle.spans.proofs.runs.crowded.Goals as goal
 
 pub returns-in_default : goal.returns-in_default

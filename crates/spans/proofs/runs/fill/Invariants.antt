@@ -1,13 +1,6 @@
 use Prim.Native.Nat.{◌-◌}
-use mathlib.Core.Path.{◌∙◌, sym, ap, subst}
-use native.Mathlib.Omega.{arith}
 use lib.ListN.{length}
-use Rattle.parse.specs.declared.Cluster.{Cluster}
-use Rattle.parse.specs.Cover.{characters_of}
-use Rattle.spans.specs.Spans.{first_record, spans_of}
-use Rattle.spans.specs.Inner.{Asked}
-use Rattle.spans.proofs.Filling.{Filling, fill_starts, fill_asks, fill_fits, fill_cell, fill_falls, fill_turn, fill_over}
-use borrow.Author.Rules.{rules}
+use Rattle.spans.proofs.Filling.{Filling}
 use Rattle.spans.proofs.runs.fill.Given as goal
 
 abbrev pub invariant-loop-at : goal.invariant-loop-at

@@ -4,7 +4,6 @@ use lib.Seq.{length-take-le}
 use Rattle.records.specs.Text.{text_in}
 use Rattle.segment.proofs.CallLaws.{all_fits}
 use Rattle.spans.proofs.Filling.{roomy_by, filled_by}
-use borrow.Author.Rules.{rules}
 use Rattle.spans.proofs.runs.fill_within.Goals as goal
 
 pub slice_bounds-fill-end-2 : goal.slice_bounds-fill-end-2

@@ -1,6 +1,5 @@
 use Rattle.records.specs.Text.{text_in}
 use Rattle.segment.proofs.CallLaws.{fits_in}
-use borrow.Author.Rules.{rules}
 use Rattle.spans.proofs.runs.run_roomy.Goals as goal
 
 pub fill_long-requires : goal.fill_long-requires

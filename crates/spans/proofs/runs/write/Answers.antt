@@ -1,8 +1,8 @@
 use mathlib.Core.Path.{refl}
-use Prim.Native.Nat.{◌≤◌, ◌<◌, ◌-◌}
+use Prim.Native.Nat.{◌<◌}
 use native.Mathlib.Omega.{arith}
 use lib.ListN.{length}
-use Rattle.segment.proofs.Written.{Cells, cells_more, cells_all}
+use Rattle.segment.proofs.Written.{cells_more, cells_all}
 use Rattle.spans.specs.Spans.{no_span}
 use Rattle.spans.specs.Runs.{offset_in, length_in, noffset_in, nlength_in}
 use borrow.Author.Rules.{rules}

@@ -1,11 +1,6 @@
-use mathlib.Core.Path.{refl}
-use Prim.Native.Nat.{◌≤◌, ◌<◌, ◌-◌}
-use native.Mathlib.Omega.{arith}
-use lib.ListN.{length}
-use Rattle.segment.proofs.Written.{Cells, cells_more, cells_all}
-use Rattle.spans.specs.Spans.{no_span}
+use Prim.Native.Nat.{◌≤◌, ◌-◌}
+use Rattle.segment.proofs.Written.{Cells}
 use Rattle.spans.specs.Runs.{offset_in, length_in, noffset_in, nlength_in}
-use borrow.Author.Rules.{rules}
 use Rattle.spans.proofs.runs.write.Given as goal
 
 abbrev pub invariant-loop-j : goal.invariant-loop-j

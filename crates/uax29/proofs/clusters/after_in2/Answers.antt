@@ -1,5 +1,4 @@
 use Rattle.uax29.proofs.ClustersSides.{among_some}
-use borrow.Author.Rules.{rules}
 use Rattle.uax29.proofs.clusters.after_in2.Goals as goal
 
 pub returns-then-after_is : goal.returns-then-after_is

@@ -1,5 +1,4 @@
 use Rattle.uax29.proofs.ClustersSides.{cells}
-use borrow.Author.Rules.{rules}
 use Rattle.uax29.proofs.clusters.after_is.Goals as goal
 
 pub returns-then-at-breaks : goal.returns-then-at-breaks

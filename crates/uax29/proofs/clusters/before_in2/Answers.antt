@@ -1,5 +1,4 @@
 use Rattle.uax29.proofs.ClustersSides.{among_some}
-use borrow.Author.Rules.{rules}
 use Rattle.uax29.proofs.clusters.before_in2.Goals as goal
 
 pub returns-then-before_is : goal.returns-then-before_is

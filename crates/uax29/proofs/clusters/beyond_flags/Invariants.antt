@@ -1,9 +1,7 @@
-use mathlib.Core.Path.{◌≡◌, refl}
+use mathlib.Core.Path.{◌≡◌}
 use Rattle.classes.specs.ClusterBreak.{RI}
 use Rattle.uax29.specs.Clusters.{is, before_of}
 use Rattle.uax29.specs.ClustersBack.{beyond}
-use Rattle.uax29.proofs.ClustersSides.{pair_there, pair_falls, pair_ends, pair_turns}
-use borrow.Author.Rules.{rules}
 use Rattle.uax29.proofs.clusters.beyond_flags.Given as goal
 
 abbrev pub invariant-loop-i : goal.invariant-loop-i

@@ -1,6 +1,5 @@
 use Rattle.uax29.proofs.ClustersSides.{decides, no_place, a_place}
 use Rattle.uax29.specs.Clusters.{GB1, GB2}
-use borrow.Author.Rules.{rules}
 use Rattle.uax29.proofs.clusters.boundary.Goals as goal
 
 pub returns-then-breaks-at : goal.returns-then-breaks-at

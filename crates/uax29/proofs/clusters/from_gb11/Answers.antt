@@ -1,6 +1,5 @@
 use Rattle.uax29.proofs.ClustersSides.{decides}
 use Rattle.uax29.specs.Clusters.{GB11, GB12, GB13}
-use borrow.Author.Rules.{rules}
 use Rattle.uax29.proofs.clusters.from_gb11.Goals as goal
 
 pub returns-then-gb11 : goal.returns-then-gb11

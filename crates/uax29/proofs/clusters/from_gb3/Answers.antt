@@ -1,6 +1,5 @@
 use Rattle.uax29.proofs.ClustersSides.{decides}
 use Rattle.uax29.specs.Clusters.{GB3, GB4, GB5}
-use borrow.Author.Rules.{rules}
 use Rattle.uax29.proofs.clusters.from_gb3.Goals as goal
 
 pub returns-then-gb3 : goal.returns-then-gb3

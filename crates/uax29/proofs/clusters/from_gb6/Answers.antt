@@ -1,6 +1,5 @@
 use Rattle.uax29.proofs.ClustersSides.{decides}
 use Rattle.uax29.specs.Clusters.{GB6, GB7, GB8}
-use borrow.Author.Rules.{rules}
 use Rattle.uax29.proofs.clusters.from_gb6.Goals as goal
 
 pub returns-then-gb6 : goal.returns-then-gb6

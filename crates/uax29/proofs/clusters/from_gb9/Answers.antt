@@ -1,6 +1,5 @@
 use Rattle.uax29.proofs.ClustersSides.{decides}
 use Rattle.uax29.specs.Clusters.{GB9, GB9a, GB9b}
-use borrow.Author.Rules.{rules}
 use Rattle.uax29.proofs.clusters.from_gb9.Goals as goal
 
 pub returns-then-gb9 : goal.returns-then-gb9

@@ -1,6 +1,5 @@
 use Rattle.uax29.proofs.ClustersSides.{sides}
 use Rattle.uax29.specs.Clusters.{applies, GB11}
-use borrow.Author.Rules.{rules}
 use Rattle.uax29.proofs.clusters.gb11.Goals as goal
 
 pub returns-then-is_joiner_before : goal.returns-then-is_joiner_before

@@ -1,6 +1,5 @@
 use Rattle.uax29.proofs.ClustersSides.{sides}
 use Rattle.uax29.specs.Clusters.{applies, GB12}
-use borrow.Author.Rules.{rules}
 use Rattle.uax29.proofs.clusters.gb12.Goals as goal
 
 pub returns-then-is_half_flag_from_start : goal.returns-then-is_half_flag_from_start

@@ -1,6 +1,5 @@
 use Rattle.uax29.proofs.ClustersSides.{sides}
 use Rattle.uax29.specs.Clusters.{applies, GB13}
-use borrow.Author.Rules.{rules}
 use Rattle.uax29.proofs.clusters.gb13.Goals as goal
 
 pub returns-then-is_half_flag_after_other : goal.returns-then-is_half_flag_after_other

@@ -1,6 +1,5 @@
 use Rattle.uax29.proofs.ClustersSides.{sides}
 use Rattle.uax29.specs.Clusters.{applies, anything, GB4}
-use borrow.Author.Rules.{rules}
 use Rattle.uax29.proofs.clusters.gb4.Goals as goal
 
 pub returns-then-before_is : goal.returns-then-before_is

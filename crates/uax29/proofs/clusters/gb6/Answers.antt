@@ -1,6 +1,5 @@
 use Rattle.uax29.proofs.ClustersSides.{sides}
 use Rattle.uax29.specs.Clusters.{applies, GB6}
-use borrow.Author.Rules.{rules}
 use Rattle.uax29.proofs.clusters.gb6.Goals as goal
 
 pub returns-then-after_is : goal.returns-then-after_is

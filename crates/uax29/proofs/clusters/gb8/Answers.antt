@@ -1,6 +1,5 @@
 use Rattle.uax29.proofs.ClustersSides.{sides}
 use Rattle.uax29.specs.Clusters.{applies, GB8}
-use borrow.Author.Rules.{rules}
 use Rattle.uax29.proofs.clusters.gb8.Goals as goal
 
 pub returns-then-before_in2 : goal.returns-then-before_in2

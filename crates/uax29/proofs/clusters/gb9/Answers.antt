@@ -1,6 +1,5 @@
 use Rattle.uax29.proofs.ClustersSides.{sides}
 use Rattle.uax29.specs.Clusters.{applies, anything, GB9}
-use borrow.Author.Rules.{rules}
 use Rattle.uax29.proofs.clusters.gb9.Goals as goal
 
 pub returns : goal.returns

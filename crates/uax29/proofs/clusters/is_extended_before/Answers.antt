@@ -1,6 +1,4 @@
-use mathlib.Core.Path.{◌≡◌, refl}
-use Rattle.classes.specs.ClusterBreak.{EX}
-use Rattle.uax29.specs.Clusters.{is, pictographic, one, many, before_of}
+use mathlib.Core.Path.{refl}
 use Rattle.uax29.proofs.ClustersSides.{there, there_falls, many_found, many_ends, many_turns}
 use borrow.Author.Rules.{rules}
 use Rattle.uax29.proofs.clusters.is_extended_before.Goals as goal

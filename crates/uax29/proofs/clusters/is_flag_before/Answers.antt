@@ -1,5 +1,4 @@
 use Rattle.uax29.proofs.ClustersSides.{nexts}
-use borrow.Author.Rules.{rules}
 use Rattle.uax29.proofs.clusters.is_flag_before.Goals as goal
 
 pub returns-then-at-eq0 : goal.returns-then-at-eq0

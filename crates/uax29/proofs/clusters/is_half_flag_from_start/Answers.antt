@@ -1,5 +1,4 @@
 use Rattle.uax29.proofs.ClustersSides.{nexts, pairs_from_start}
-use borrow.Author.Rules.{rules}
 use Rattle.uax29.proofs.clusters.is_half_flag_from_start.Goals as goal
 
 pub returns-then-at-eq0 : goal.returns-then-at-eq0

@@ -1,5 +1,4 @@
 use mathlib.Core.Path.{◌∙◌}
-use borrow.Author.Rules.{rules}
 use Rattle.uax29.proofs.conjoined.class_before.Goals as goal
 
 pub returns-then-at-eq0 : goal.returns-then-at-eq0

@@ -1,7 +1,6 @@
 use mathlib.Core.Path.{◌∙◌}
 use Rattle.uax29.specs.Conjoined.{conjoined_at}
 use Rattle.uax29.proofs.Links.{no_consonant}
-use borrow.Author.Rules.{rules}
 use Rattle.uax29.proofs.conjoined.is_conjoined.Goals as goal
 
 pub returns-then-conjunct-eq-Consonant : goal.returns-then-conjunct-eq-Consonant

@@ -1,5 +1,4 @@
 use Rattle.basics.proofs.Choices.{chains}
-use borrow.Author.Rules.{rules}
 use Rattle.uax29.proofs.conjoined.is_control_beside.Goals as goal
 
 pub returns-then-in3 : goal.returns-then-in3

@@ -2,7 +2,6 @@ use mathlib.Core.Path.{ap}
 use mathlib.Core.Bool.{not}
 use Rattle.basics.proofs.Choices.{chains, and_later}
 use Rattle.uax29.specs.Conjoined.{conjoins}
-use borrow.Author.Rules.{rules}
 use Rattle.uax29.proofs.conjoined.is_joined.Goals as goal
 
 pub returns-then-is_met : goal.returns-then-is_met

@@ -1,5 +1,3 @@
-use mathlib.Core.Path.{◌≡◌}
-use Rattle.uax29.specs.Conjoined.{linked_at}
 use Rattle.uax29.proofs.Links.{linked_back}
 use borrow.Author.Rules.{rules}
 use Rattle.uax29.proofs.conjoined.is_linked.Goals as goal

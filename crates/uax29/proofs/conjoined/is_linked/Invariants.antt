@@ -1,7 +1,5 @@
 use mathlib.Core.Path.{◌≡◌}
 use Rattle.uax29.specs.Conjoined.{linked_at}
-use Rattle.uax29.proofs.Links.{linked_back}
-use borrow.Author.Rules.{rules}
 use Rattle.uax29.proofs.conjoined.is_linked.Given as goal
 
 abbrev pub invariant-loop-i : goal.invariant-loop-i

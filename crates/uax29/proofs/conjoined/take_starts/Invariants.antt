@@ -1,12 +1,9 @@
 use Prim.Native.Nat.{◌≤◌, ◌-◌}
-use mathlib.Core.Path.{◌≡◌, refl}
-use native.Mathlib.Omega.{arith}
+use mathlib.Core.Path.{◌≡◌}
 use lib.ListN.{length}
-use Rattle.basics.specs.Columns.{cells}
 use Rattle.basics.proofs.Columns.{Written}
 use Rattle.uax29.specs.Conjoined.{taken_at}
-use Rattle.uax29.proofs.Links.{link_at, link_none, link_more, turn_taken}
-use borrow.Author.Rules.{rules}
+use Rattle.uax29.proofs.Links.{link_at}
 use Rattle.uax29.proofs.conjoined.take_starts.Given as goal
 
 abbrev pub invariant-loop-i : goal.invariant-loop-i

@@ -1,5 +1,4 @@
 use Rattle.uax29.proofs.EditionLaws.{edition_unknown, edition_shape, edition_codes}
-use borrow.Author.Rules.{rules}
 use Rattle.uax29.proofs.editions.check_edition.Goals as goal
 
 pub returns-then-is_unknown : goal.returns-then-is_unknown

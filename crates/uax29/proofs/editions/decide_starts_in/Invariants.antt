@@ -1,12 +1,8 @@
 use Prim.Native.Nat.{◌≤◌, ◌-◌}
-use mathlib.Core.Path.{◌≡◌, refl}
-use native.Mathlib.Omega.{arith}
+use mathlib.Core.Path.{◌≡◌}
 use lib.ListN.{length}
-use Rattle.basics.specs.Columns.{cells}
 use Rattle.basics.proofs.Columns.{Written}
 use Rattle.uax29.specs.EditionRuns.{start_in}
-use Rattle.uax29.proofs.EditionLaws.{turn_in}
-use borrow.Author.Rules.{rules}
 use Rattle.uax29.proofs.editions.decide_starts_in.Given as goal
 
 abbrev pub invariant-loop-i : goal.invariant-loop-i

@@ -1,5 +1,4 @@
 use Rattle.uax29.proofs.EditionLaws.{run_refused, run_whole, run_checked, run_long}
-use borrow.Author.Rules.{rules}
 use Rattle.uax29.proofs.editions.edition_forward.Goals as goal
 
 pub returns-in_default : goal.returns-in_default

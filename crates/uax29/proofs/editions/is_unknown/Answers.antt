@@ -1,6 +1,5 @@
 use mathlib.Core.Path.{refl}
 use Rattle.uax29.proofs.EditionLaws.{unknown_first, unknown_later}
-use borrow.Author.Rules.{rules}
 use Rattle.uax29.proofs.editions.is_unknown.Goals as goal
 
 pub returns-then-edition-eq-UNICODE_15_0 : goal.returns-then-edition-eq-UNICODE_15_0

@@ -1,5 +1,4 @@
 use mathlib.Core.Path.{◌∙◌}
-use borrow.Author.Rules.{rules}
 use Rattle.uax29.proofs.editions.judge.Goals as goal
 
 pub returns : goal.returns

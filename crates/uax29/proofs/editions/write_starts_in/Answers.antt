@@ -1,5 +1,4 @@
 use Rattle.uax29.proofs.EditionLaws.{written_151, written_other}
-use borrow.Author.Rules.{rules}
 use Rattle.uax29.proofs.editions.write_starts_in.Goals as goal
 
 pub returns-then-edition-eq-UNICODE_15_1 : goal.returns-then-edition-eq-UNICODE_15_1

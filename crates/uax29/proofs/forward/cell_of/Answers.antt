@@ -1,5 +1,4 @@
 use Rattle.uax29.specs.GraphemeRows.{cell_of}
-use borrow.Author.Rules.{rules}
 use Rattle.uax29.proofs.forward.cell_of.Goals as goal
 
 pub returns : goal.returns

@@ -1,6 +1,5 @@
 use Rattle.uax29.specs.GraphemeRows.{row_in}
 use mathlib.Core.Path.{refl}
-use borrow.Author.Rules.{rules}
 use Rattle.uax29.proofs.forward.row_in.Goals as goal
 
 pub returns : goal.returns

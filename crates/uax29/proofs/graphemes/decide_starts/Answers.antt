@@ -1,10 +1,7 @@
-use Prim.Native.Nat.{◌≤◌, ◌-◌}
 use mathlib.Core.Path.{◌≡◌, refl}
 use lib.ListN.{length}
 use native.Mathlib.Omega.{arith}
 use Rattle.basics.specs.Columns.{cells}
-use Rattle.basics.proofs.Columns.{Written}
-use Rattle.uax29.specs.Graphemes.{start_at}
 use Rattle.uax29.proofs.GraphemeSummary.{turn_decided}
 use borrow.Author.Rules.{rules}
 use Rattle.uax29.proofs.graphemes.decide_starts.Goals as goal

@@ -1,12 +1,8 @@
 use Prim.Native.Nat.{◌≤◌, ◌-◌}
-use mathlib.Core.Path.{◌≡◌, refl}
+use mathlib.Core.Path.{◌≡◌}
 use lib.ListN.{length}
-use native.Mathlib.Omega.{arith}
-use Rattle.basics.specs.Columns.{cells}
 use Rattle.basics.proofs.Columns.{Written}
 use Rattle.uax29.specs.Graphemes.{start_at}
-use Rattle.uax29.proofs.GraphemeSummary.{turn_decided}
-use borrow.Author.Rules.{rules}
 use Rattle.uax29.proofs.graphemes.decide_starts.Given as goal
 
 abbrev pub invariant-loop-i : goal.invariant-loop-i

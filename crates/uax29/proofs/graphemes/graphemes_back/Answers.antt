@@ -1,5 +1,4 @@
 use Rattle.uax29.proofs.GraphemeSummary.{run_refused, run_whole, run_long}
-use borrow.Author.Rules.{rules}
 use Rattle.uax29.proofs.graphemes.graphemes_back.Goals as goal
 
 pub returns-in_default : goal.returns-in_default

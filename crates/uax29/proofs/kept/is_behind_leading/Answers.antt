@@ -1,5 +1,4 @@
 use Rattle.basics.proofs.Choices.{chains}
-use borrow.Author.Rules.{rules}
 use Rattle.uax29.proofs.kept.is_behind_leading.Goals as goal
 
 pub returns-then-b-eq-L : goal.returns-then-b-eq-L

@@ -1,5 +1,4 @@
 use Rattle.basics.proofs.Choices.{chains}
-use borrow.Author.Rules.{rules}
 use Rattle.uax29.proofs.kept.is_leading_run.Goals as goal
 
 pub returns-then-a-eq-L : goal.returns-then-a-eq-L

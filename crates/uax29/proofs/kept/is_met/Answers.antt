@@ -1,4 +1,3 @@
-use borrow.Author.Rules.{rules}
 use Rattle.uax29.proofs.kept.is_met.Goals as goal
 
 pub returns-then-flag : goal.returns-then-flag

@@ -1,5 +1,4 @@
 use Rattle.basics.proofs.Choices.{chains}
-use borrow.Author.Rules.{rules}
 use Rattle.uax29.proofs.kept.is_vowel_run.Goals as goal
 
 pub returns-then-in2 : goal.returns-then-in2

@@ -1,7 +1,4 @@
-use Prim.Native.Nat.{◌-◌}
-use mathlib.Core.Path.{◌≡◌, refl, sym, ◌∙◌}
-use lib.ListN.{length}
-use Rattle.uax29.specs.WordsSeen.{ahead}
+use mathlib.Core.Path.{refl, sym, ◌∙◌}
 use Rattle.uax29.proofs.WordsWalk.{ahead_here, ahead_passes, ahead_none}
 use borrow.Author.Rules.{rules}
 use Rattle.uax29.proofs.words.ahead.Goals as goal

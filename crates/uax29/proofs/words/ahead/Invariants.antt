@@ -1,9 +1,7 @@
 use Prim.Native.Nat.{◌-◌}
-use mathlib.Core.Path.{◌≡◌, refl, sym, ◌∙◌}
+use mathlib.Core.Path.{◌≡◌}
 use lib.ListN.{length}
 use Rattle.uax29.specs.WordsSeen.{ahead}
-use Rattle.uax29.proofs.WordsWalk.{ahead_here, ahead_passes, ahead_none}
-use borrow.Author.Rules.{rules}
 use Rattle.uax29.proofs.words.ahead.Given as goal
 
 abbrev pub invariant-loop-i : goal.invariant-loop-i

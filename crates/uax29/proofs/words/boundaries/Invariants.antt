@@ -1,13 +1,9 @@
 use Prim.Native.Nat.{◌≤◌, ◌-◌}
-use mathlib.Core.Path.{◌≡◌, refl}
+use mathlib.Core.Path.{◌≡◌}
 use lib.ListN.{length}
-use native.Mathlib.Omega.{arith}
-use Rattle.basics.specs.Columns.{cells}
 use Rattle.basics.proofs.Columns.{Written}
 use Rattle.uax29.specs.Words.{boundary_at}
 use Rattle.uax29.specs.WordsSeen.{seen_at}
-use Rattle.uax29.proofs.WordsWalk.{turn_seen, turn_cells}
-use borrow.Author.Rules.{rules}
 use Rattle.uax29.proofs.words.boundaries.Given as goal
 
 abbrev pub invariant-loop-i : goal.invariant-loop-i

@@ -1,6 +1,5 @@
 use Rattle.uax29.specs.WordsSeen.{from_WB5}
 use Rattle.uax29.proofs.WordsChain.{answers}
-use borrow.Author.Rules.{rules}
 use Rattle.uax29.proofs.words.from_wb5.Goals as goal
 
 pub returns-then-pair : goal.returns-then-pair

@@ -1,4 +1,3 @@
-use borrow.Author.Rules.{rules}
 use Rattle.basics.proofs.Choices.{chains}
 use Rattle.uax29.proofs.words.one_two.Goals as goal
 

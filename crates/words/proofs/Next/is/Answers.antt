@@ -1,6 +1,5 @@
 use Rattle.basics.proofs.Choices.{or_only}
 use Rattle.words.proofs.Chain.{by_class}
-use borrow.Author.Rules.{rules}
 use Rattle.words.proofs.Next.is.Goals as goal
 
 pub returns-in-Class : goal.returns-in-Class

@@ -1,5 +1,4 @@
 use Rattle.words.proofs.Chain.{by_class}
-use borrow.Author.Rules.{rules}
 use Rattle.words.proofs.Next.is_letter.Goals as goal
 
 pub returns-in-Class : goal.returns-in-Class

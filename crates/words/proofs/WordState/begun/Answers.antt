@@ -1,7 +1,6 @@
 use Rattle.words.specs.Rules.{leaves}
 use mathlib.Core.Path.{◌∙◌}
 use borrow.Author.Tests.{eq-eqb, ne_eqb}
-use borrow.Author.Rules.{rules}
 use Rattle.words.proofs.WordState.begun.Goals as goal
 
 pub returns-then-class-eq-RI : goal.returns-then-class-eq-RI

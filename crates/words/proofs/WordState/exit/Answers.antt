@@ -1,6 +1,5 @@
 use Rattle.words.specs.Rules.{exit_of}
 use Rattle.words.proofs.Chain.{exits}
-use borrow.Author.Rules.{rules}
 use Rattle.words.proofs.WordState.exit.Goals as goal
 
 pub returns-then-self : goal.returns-then-self

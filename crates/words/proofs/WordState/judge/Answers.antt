@@ -1,6 +1,5 @@
 use Rattle.words.specs.Step.{step_verdict}
 use Rattle.records.proofs.Chain.{verdicts}
-use borrow.Author.Rules.{rules}
 use Rattle.words.proofs.WordState.judge.Goals as goal
 
 pub returns-then-is_bad_record : goal.returns-then-is_bad_record

@@ -1,6 +1,5 @@
 use Rattle.words.specs.Rules.{leaves}
 use Rattle.words.proofs.Chain.{by_exit}
-use borrow.Author.Rules.{rules}
 use Rattle.words.proofs.WordState.leave.Goals as goal
 
 pub returns-in-Begun : goal.returns-in-Begun

@@ -1,5 +1,4 @@
 use Rattle.words.proofs.Chain.{steps}
-use borrow.Author.Rules.{rules}
 use Rattle.words.proofs.WordState.step.Goals as goal
 
 pub returns-in_default : goal.returns-in_default

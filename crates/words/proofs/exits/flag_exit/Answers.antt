@@ -1,6 +1,5 @@
 use Rattle.words.specs.Rules.{flag_rules}
 use borrow.Author.Tests.{le-leb, lt-leb, eq-eqb, ne_eqb}
-use borrow.Author.Rules.{rules}
 use Rattle.words.proofs.exits.flag_exit.Goals as goal
 
 pub returns-then-b-eq-RI : goal.returns-then-b-eq-RI

@@ -1,6 +1,5 @@
 use Rattle.words.specs.Rules.{number_rules}
 use Rattle.words.proofs.Chain.{exits}
-use borrow.Author.Rules.{rules}
 use Rattle.words.proofs.exits.number_exit.Goals as goal
 
 pub returns-then-is_number_run : goal.returns-then-is_number_run

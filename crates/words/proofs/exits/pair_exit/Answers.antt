@@ -1,6 +1,5 @@
 use Rattle.words.specs.Rules.{pair_rules}
 use Rattle.words.proofs.Chain.{exits}
-use borrow.Author.Rules.{rules}
 use Rattle.words.proofs.exits.pair_exit.Goals as goal
 
 pub returns-then-is_crlf : goal.returns-then-is_crlf

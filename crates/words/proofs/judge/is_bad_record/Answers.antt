@@ -1,4 +1,3 @@
-use borrow.Author.Rules.{rules}
 use Rattle.basics.proofs.Choices.{chains}
 use Rattle.words.proofs.judge.is_bad_record.Goals as goal
 

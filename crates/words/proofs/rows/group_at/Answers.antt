@@ -1,7 +1,6 @@
 use mathlib.Core.Path.{refl}
 use native.Mathlib.Omega.{arith}
 use Rattle.words.proofs.Standing.{group_there, group_none}
-use borrow.Author.Rules.{rules}
 use Rattle.words.proofs.rows.group_at.Goals as goal
 
 pub bounds-groups-wide : goal.bounds-groups-wide

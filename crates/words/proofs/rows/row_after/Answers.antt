@@ -1,5 +1,4 @@
 use Rattle.words.specs.Rows.{row_after}
-use borrow.Author.Rules.{rules}
 use Rattle.words.proofs.rows.row_after.Goals as goal
 
 pub returns : goal.returns

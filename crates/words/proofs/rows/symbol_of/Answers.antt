@@ -1,5 +1,4 @@
 use Rattle.words.specs.Rows.{symbol_of}
-use borrow.Author.Rules.{rules}
 use Rattle.words.proofs.rows.symbol_of.Goals as goal
 
 pub returns : goal.returns

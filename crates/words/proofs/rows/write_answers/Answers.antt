@@ -1,14 +1,12 @@
-use Prim.Native.Nat.{◌≤◌, ◌-◌}
 use mathlib.Core.Path.{◌≡◌, refl}
 use lib.ListN.{length}
 use native.Mathlib.Omega.{arith}
 use Rattle.basics.specs.Columns.{cells}
-use Rattle.basics.proofs.Columns.{Written}
-use Rattle.words.specs.Run.{state_at, answer_at}
+use Rattle.words.specs.Run.{state_at}
 use Rattle.words.specs.Table.{word_groups, word_symbols, word_nexts, word_answers}
 use Rattle.records.proofs.Marks.{even, fine_class, fine_mark}
 use Rattle.words.proofs.Accepted.{fine_next}
-use Rattle.words.proofs.Standing.{Stands, start_stands, turn_stands, turn_written, turn_symbol, row_small, group_small}
+use Rattle.words.proofs.Standing.{start_stands, turn_stands, turn_written, turn_symbol, row_small, group_small}
 use borrow.Author.Rules.{rules}
 use Rattle.words.proofs.rows.write_answers.Goals as goal
 

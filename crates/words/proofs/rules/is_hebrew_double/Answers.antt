@@ -1,4 +1,3 @@
-use borrow.Author.Rules.{rules}
 use Rattle.basics.proofs.Choices.{chains}
 use Rattle.words.proofs.rules.is_hebrew_double.Goals as goal
 

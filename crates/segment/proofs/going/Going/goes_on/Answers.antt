@@ -1,4 +1,3 @@
-use borrow.Author.Rules.{rules}
 use Rattle.segment.proofs.going.Going.goes_on.Goals as goal
 
 pub returns-then-is_full : goal.returns-then-is_full

@@ -1,5 +1,4 @@
 use Rattle.segment.proofs.Reading.{last_none, last_some}
-use borrow.Author.Rules.{rules}
 use Rattle.segment.proofs.going.Going.has_last_cell.Goals as goal
 
 pub returns-in-Crate : goal.returns-in-Crate

@@ -1,4 +1,3 @@
-use borrow.Author.Rules.{rules}
 use Rattle.segment.proofs.going.Going.refill.Goals as goal
 
 pub returns : goal.returns

@@ -1,6 +1,5 @@
 use Rattle.segment.specs.Going.{turned, put_by}
 use borrow.Author.Tests.{eq-eqb, ne_eqb}
-use borrow.Author.Rules.{rules}
 use Rattle.segment.proofs.going.Going.turn.Goals as goal
 
 pub returns-then-what-eq3 : goal.returns-then-what-eq3

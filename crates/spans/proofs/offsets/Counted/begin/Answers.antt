@@ -1,6 +1,4 @@
 use Rattle.basics.proofs.Choices.{choices}
-use Rattle.spans.proofs.offsets.Counted.begin.Reads as reads
-use Rattle.spans.proofs.offsets.Counted.begin.Lts as lts
 use Rattle.spans.proofs.offsets.Counted.begin.Goals as goal
 
 -- src/offsets.rt:44:13

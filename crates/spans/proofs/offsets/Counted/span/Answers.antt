@@ -1,6 +1,5 @@
 use native.Mathlib.Omega.{arith}
 use Rattle.spans.proofs.Along.{counts_to, end_fits, span_bare, span_noted}
-use borrow.Author.Rules.{rules}
 use Rattle.spans.proofs.offsets.Counted.span.Goals as goal
 
 pub to-own-requires : goal.to-own-requires

@@ -1,7 +1,4 @@
-use Prim.Native.Nat.{◌≤◌, ◌-◌}
-use mathlib.Core.Path.{◌≡◌}
 use native.Mathlib.Omega.{arith}
-use Rattle.spans.specs.Offsets.{offset_of}
 use Rattle.spans.proofs.Counting.{end_most, to_begins, to_turns, to_over}
 use borrow.Author.Rules.{rules}
 use Rattle.spans.proofs.offsets.Counted.to.Goals as goal

@@ -1,5 +1,4 @@
 use Rattle.uax29.proofs.Links.{link_consonant, link_linker, link_extend, link_other}
-use borrow.Author.Rules.{rules}
 use Rattle.uax29.proofs.conjoined.Link.after.Goals as goal
 
 pub returns-then-conjunct-eq-Consonant : goal.returns-then-conjunct-eq-Consonant

@@ -1,5 +1,4 @@
 use Rattle.uax29.proofs.Links.{bad_begun, bad_other}
-use borrow.Author.Rules.{rules}
 use Rattle.uax29.proofs.conjoined.Link.is_bad.Goals as goal
 
 pub returns-then-self : goal.returns-then-self

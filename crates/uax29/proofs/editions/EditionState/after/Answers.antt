@@ -1,9 +1,6 @@
 use Rattle.uax29.specs.Clusters.{is, pictographic}
 use Rattle.uax29.specs.GraphemeStep.{advance}
 use Rattle.uax29.specs.EditionStep.{advance_in}
-use borrow.Author.Rules.{rules}
-use Rattle.uax29.proofs.conjoined.Link.after.Reads as conjoined-Link-after-reads
-use Rattle.uax29.proofs.graphemes.GraphemeState.after.Reads as graphemes-GraphemeState-after-reads
 use Rattle.uax29.proofs.editions.EditionState.after.Goals as goal
 
 pub returns : goal.returns

@@ -1,5 +1,4 @@
 use Rattle.uax29.proofs.EditionLaws.{answer_151, answer_other}
-use borrow.Author.Rules.{rules}
 use Rattle.uax29.proofs.editions.EditionState.answer.Goals as goal
 
 pub returns-then-edition-eq-UNICODE_15_1 : goal.returns-then-edition-eq-UNICODE_15_1

@@ -1,6 +1,5 @@
 use Rattle.uax29.specs.EditionStep.{step_verdict_in}
 use Rattle.records.proofs.Chain.{told_verdicts}
-use borrow.Author.Rules.{rules}
 use Rattle.uax29.proofs.editions.EditionState.judge.Goals as goal
 
 pub returns-then-is_unknown : goal.returns-then-is_unknown

@@ -1,5 +1,4 @@
 use Rattle.uax29.proofs.EditionLaws.{step_refused, step_good, step_passed}
-use borrow.Author.Rules.{rules}
 use Rattle.uax29.proofs.editions.EditionState.step.Goals as goal
 
 pub returns-in_default : goal.returns-in_default

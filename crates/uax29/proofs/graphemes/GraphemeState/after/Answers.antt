@@ -1,6 +1,5 @@
 use Rattle.uax29.specs.Clusters.{is, pictographic}
 use Rattle.uax29.specs.GraphemeStep.{advance}
-use borrow.Author.Rules.{rules}
 use Rattle.uax29.proofs.graphemes.GraphemeState.after.Goals as goal
 
 pub returns : goal.returns

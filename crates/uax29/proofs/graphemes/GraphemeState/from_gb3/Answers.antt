@@ -1,6 +1,5 @@
 use Rattle.uax29.proofs.WordsChain.{answers}
 use Rattle.uax29.specs.GraphemeKept.{from_GB3}
-use borrow.Author.Rules.{rules}
 use Rattle.uax29.proofs.graphemes.GraphemeState.from_gb3.Goals as goal
 
 pub returns-then-is_crlf : goal.returns-then-is_crlf

@@ -1,6 +1,5 @@
 use Rattle.uax29.proofs.WordsChain.{answers}
 use Rattle.uax29.specs.GraphemeKept.{from_GB6}
-use borrow.Author.Rules.{rules}
 use Rattle.uax29.proofs.graphemes.GraphemeState.from_gb6.Goals as goal
 
 pub returns-then-is_leading_run : goal.returns-then-is_leading_run

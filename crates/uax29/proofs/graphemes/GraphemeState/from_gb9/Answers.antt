@@ -1,6 +1,5 @@
 use Rattle.uax29.proofs.WordsChain.{answers, equal_here, equal_later}
 use Rattle.uax29.specs.GraphemeKept.{from_GB9}
-use borrow.Author.Rules.{rules}
 use Rattle.uax29.proofs.graphemes.GraphemeState.from_gb9.Goals as goal
 
 pub returns-then-in2 : goal.returns-then-in2

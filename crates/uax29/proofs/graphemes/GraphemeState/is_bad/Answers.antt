@@ -1,5 +1,4 @@
 use Rattle.basics.proofs.Choices.{chains}
-use borrow.Author.Rules.{rules}
 use Rattle.uax29.proofs.graphemes.GraphemeState.is_bad.Goals as goal
 
 pub returns-then-is_above : goal.returns-then-is_above

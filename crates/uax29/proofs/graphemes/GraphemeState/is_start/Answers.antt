@@ -1,5 +1,4 @@
 use Rattle.uax29.proofs.GraphemeSummary.{starts_first, starts_later}
-use borrow.Author.Rules.{rules}
 use Rattle.uax29.proofs.graphemes.GraphemeState.is_start.Goals as goal
 
 pub returns-then-self-eq-LEN : goal.returns-then-self-eq-LEN

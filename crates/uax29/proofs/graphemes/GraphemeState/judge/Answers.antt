@@ -1,6 +1,5 @@
 use Rattle.uax29.specs.GraphemeStep.{step_verdict}
 use Rattle.records.proofs.Chain.{told_verdicts}
-use borrow.Author.Rules.{rules}
 use Rattle.uax29.proofs.graphemes.GraphemeState.judge.Goals as goal
 
 pub returns-then-is_bad_marked : goal.returns-then-is_bad_marked

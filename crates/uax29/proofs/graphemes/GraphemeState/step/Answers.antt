@@ -1,5 +1,4 @@
 use Rattle.uax29.proofs.GraphemeSummary.{step_refused, step_passed}
-use borrow.Author.Rules.{rules}
 use Rattle.uax29.proofs.graphemes.GraphemeState.step.Goals as goal
 
 pub returns-in_default : goal.returns-in_default

@@ -1,5 +1,4 @@
 use Rattle.uax29.specs.WordsSeen.{after}
-use borrow.Author.Rules.{rules}
 use Rattle.uax29.proofs.words.Seen.after.Goals as goal
 
 pub returns-then-passes_over : goal.returns-then-passes_over

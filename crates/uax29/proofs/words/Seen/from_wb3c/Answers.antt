@@ -1,6 +1,5 @@
 use Rattle.uax29.proofs.WordsChain.{answers}
 use Rattle.uax29.specs.WordsSeen.{from_WB3c}
-use borrow.Author.Rules.{rules}
 use Rattle.uax29.proofs.words.Seen.from_wb3c.Goals as goal
 
 pub returns-then-pair : goal.returns-then-pair

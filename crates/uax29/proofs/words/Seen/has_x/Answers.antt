@@ -1,7 +1,6 @@
 use Rattle.basics.proofs.Choices.{not_call}
 use Rattle.uax29.proofs.WordsChain.{tests}
 use Rattle.uax29.specs.WordsSeen.{has_x}
-use borrow.Author.Rules.{rules}
 use Rattle.uax29.proofs.words.Seen.has_x.Goals as goal
 
 pub returns-then-self : goal.returns-then-self

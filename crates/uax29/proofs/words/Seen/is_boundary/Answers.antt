@@ -1,6 +1,5 @@
 use Rattle.uax29.proofs.WordsChain.{tests}
 use Rattle.uax29.specs.WordsSeen.{decided, from_WB1}
-use borrow.Author.Rules.{rules}
 use Rattle.uax29.proofs.words.Seen.is_boundary.Goals as goal
 
 pub returns-then-self : goal.returns-then-self

@@ -1,5 +1,4 @@
 use Rattle.uax29.proofs.WordsChain.{by_set}
-use borrow.Author.Rules.{rules}
 use Rattle.uax29.proofs.words.Set.has.Goals as goal
 
 pub returns-in-Only : goal.returns-in-Only
