@@ -1,7 +1,7 @@
 // The Unicode property files: their value names, their lines, and range columns with their lookup.
 #![tactic(auto)]
 
-mod lines;
+mod file_lines;
 mod lookups;
 mod meets;
 mod merging;
@@ -11,7 +11,7 @@ mod reading;
 mod rulings;
 mod verdicts;
 
-pub use lines::{line_of, value_in};
+pub use file_lines::{line_of, value_in};
 pub use lookups::lookup;
 pub use names::code_of;
 pub use reading::read;

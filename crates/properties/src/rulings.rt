@@ -2,7 +2,7 @@
 ghost use Rattle.std.specs.Prelude.{◌≡◌};
 ghost use Rattle.properties.specs.Rulings.{range_ruled, ruling_of};
 
-use crate::lines::{line_of, value_in};
+use crate::file_lines::{line_of, value_in};
 use crate::names::code_of;
 use crate::{File, Line, Ruling, Value};
 
