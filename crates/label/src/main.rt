@@ -78,7 +78,8 @@ struct Turn {
     open: bool,
 }
 
-// What one read gives, so that a user at a terminal is answered line by line. A read that fails ends the input.
+// How many bytes one read gives: it does not wait for a full buffer, so that each line is answered as it is written. A read that fails
+// ends the input.
 fn read_chunk(mut input: Stdin, chunk: &mut [u8]) -> usize
     ensures { result ≤ length chunk.new }
 {

@@ -1,4 +1,5 @@
 // The small pieces of a line.
+
 // The descriptor of standard output.
 const STDOUT: i32 = 1;
 

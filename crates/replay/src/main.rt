@@ -76,7 +76,7 @@ struct Turn {
     open: bool,
 }
 
-// What one read gives, so that a user at a terminal is answered line by line. A read that fails ends the input.
+// How many bytes one read gives. A read that fails ends the input.
 fn read_chunk(mut input: Stdin, chunk: &mut [u8]) -> usize
     ensures { result ≤ length chunk.new }
 {
