@@ -16,23 +16,30 @@ use classes::{Shape, scalar};
 use parse::Parse;
 use parse::state::token_at;
 
-pub fn parse(s: Parse, text: &[u64], khmer: bool) -> Parse
+pub fn parse(mut s: Parse, text: &[u64], khmer: bool) -> Parse
     ensures { result ≡ run (cluster khmer) text.now s }
 {
     if s.emoji(text) {
-        return s.parse_emoji(text);
+        s = s.parse_emoji(text);
+        return s;
     }
     if s.kind_is(text, O) {
-        return s.parse_other(text);
+        s = s.parse_other(text);
+        return s;
     }
     if s.kind_in3(text, IND, Rsv, WJ) {
-        return accept_base(s, text);
+        s = accept_base(s, text);
+        return s;
     }
     if s.kind_is(text, R) {
-        return parse_standard(s.accept_any_as(text, Shape::Reph), text, khmer, false);
+        s = s.accept_any_as(text, Shape::Reph);
+        s = parse_standard(s, text, khmer, false);
+        return s;
     }
     if s.kind_is(text, CS) {
-        return parse_standard(s.accept_any_as(text, Shape::Other), text, khmer, false);
+        s = s.accept_any_as(text, Shape::Other);
+        s = parse_standard(s, text, khmer, false);
+        return s;
     }
     parse_letter(s, text, khmer)
 }

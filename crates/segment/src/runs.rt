@@ -243,7 +243,9 @@ fn token_count<'s, 'a>(
     count_of(parser, mode, wides, bytes, firsts)
 }
 
-// The clusters that the table makes of the columns themselves, where it can.
+// The clusters that the table makes of the columns themselves, where it can. In a frame of its own, so that its copies of the tables are gone
+// from the stack when the rest of the run begins.
+#[inline(never)]
 fn begin<'s, 'a>(
     task: Task,
     wides: &'s [&'a [u32]; 2],

@@ -12,12 +12,13 @@ use classes::scalar::ZWNJ;
 use parse::Parse;
 
 // One cluster.
-pub fn parse(s: Parse, text: &[u64]) -> Parse
+pub fn parse(mut s: Parse, text: &[u64]) -> Parse
     ensures { result ≡ run cluster text.now s }
 {
-    let s = s.accept_zero_or_many_as(text, PP, Shape::Base);
-    let s = parse_start(s, text);
-    parse_extensions(s, text)
+    s = s.accept_zero_or_many_as(text, PP, Shape::Base);
+    s = parse_start(s, text);
+    s = parse_extensions(s, text);
+    s
 }
 
 fn parse_start(s: Parse, text: &[u64]) -> Parse
@@ -29,21 +30,24 @@ fn parse_start(s: Parse, text: &[u64]) -> Parse
     parse_control(s, text)
 }
 
-fn parse_control(s: Parse, text: &[u64]) -> Parse
+fn parse_control(mut s: Parse, text: &[u64]) -> Parse
     ensures { result ≡ run control text.now s }
 {
     if s.kind_is(text, CN) {
-        return s.accept_any_as(text, Shape::Control);
+        s = s.accept_any_as(text, Shape::Control);
+        return s;
     }
     if s.kind_is(text, LF) {
-        return s.parse_newline(text);
+        s = s.parse_newline(text);
+        return s;
     }
     if s.kind_is(text, CR) {
-        return s
-            .parse_newline_with(text, LF)
-            .accept_as(text, LF, Shape::Control);
+        s = s.parse_newline_with(text, LF);
+        s = s.accept_as(text, LF, Shape::Control);
+        return s;
     }
-    parse_syllable(s, text)
+    s = parse_syllable(s, text);
+    s
 }
 
 fn parse_syllable(s: Parse, text: &[u64]) -> Parse
