@@ -85,6 +85,7 @@ PRIMITIVES = [
     Primitive("eqb", 2, lambda a, b: TRUE if a == b else FALSE),
     Primitive("||", 2, lambda a, b: TRUE if a == TRUE else b),
     Primitive("cond", 3, lambda test, a, b: a if test == TRUE else b),
+    Primitive("list_any", 2, lambda test, xs: TRUE if any(applied(test, [x]) == TRUE for x in items(xs)) else FALSE),
     Primitive("get_or", 3, lambda xs, place, default: next(itertools.islice(items(xs), place, None), default)),
 ]
 

@@ -16,7 +16,7 @@ INDENT = "    "
 
 class Cells(NamedTuple):
     name: str  # of the definition
-    constant: str | None  # of the constant in the code, or none
+    constant: str | None  # of the constant or static in the code, or none
     kind: str | None  # the type of its cells there
     about: str
     cells: list
@@ -32,11 +32,12 @@ def spec_file(note, lists, width):
     return text
 
 
-def code_file(note, lists):
+def code_file(note, lists, item="const"):
+    """Each list as an item of the code: a constant, or a static, which stands in one place and is not copied to where it is read."""
     text = f"// {note}\n"
     for one in lists:
         if one.constant:
-            text += f"\n// {one.about}\npub const {one.constant}: [{one.kind}; {len(one.cells)}] = {array(one.cells)};\n"
+            text += f"\n// {one.about}\npub {item} {one.constant}: [{one.kind}; {len(one.cells)}] = {array(one.cells)};\n"
     return text
 
 

@@ -9,7 +9,7 @@
 //! of two files how many ranges they have, or which line stands in the way.
 //!
 //! A call on a label of up to 256 tokens fits in 16 KiB of stack, and a call on any text, and one that reads a property file, in 256 KiB;
-//! tests/stack.rs runs every call so. Measured on x86-64: 14.0 KB and 117 KB at most, and 148 KB for a property file.
+//! tests/stack.rs runs every call so. Measured on x86-64: 14.2 KB and 110 KB at most, and 148 KB for a property file.
 //!
 //! ```
 //! use ezherbut::codes::{category, cluster_break, myanmar_class, use_class, word_break};

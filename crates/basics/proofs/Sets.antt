@@ -8,9 +8,11 @@ use native.Mathlib.Nat.{eq-or-lt_of_le}
 use native.Mathlib.Numerals.{add-one}
 use native.Mathlib.Omega.{arith}
 use lib.Dec.{eqb}
-use borrow.Author.Tests.{eqb-true, eq-eqb, ne_eqb}
+use borrow.Author.Tests.{eqb-true, eqb-false, eq-eqb, ne_eqb}
+use Rattle.std.specs.Prelude.{nat_eq}
+use Rattle.std.specs.List.{list_any}
 use Rattle.basics.specs.Sets.{member, every}
-use Rattle.basics.proofs.Tests.{both}
+use Rattle.basics.proofs.Tests.{by_test, both}
 
 pub member_here : (x k : ℕ) (xs : List ℕ) → k ≡ x → true ≡ member (x ∷ xs) k
 member_here x k xs e = rw (eq-eqb k x e)
@@ -24,6 +26,13 @@ member_last x k = go (eqb k x)
     go : (b : Bool) → b ≡ (b || false)
     go true = refl
     go false = refl
+
+-- what `contains` of a list says
+pub member_listed : (xs : List ℕ) (k : ℕ) → list_any (λ y. nat_eq y k) xs ≡ member xs k
+member_listed [] k = refl
+member_listed (x ∷ xs) k = by_test (eqb k x)
+    (λ e. rw (e, eqb-true k x e, eq-eqb x x refl) refl)
+    (λ e. rw (e, ne_eqb x k (λ d. eqb-false k x e (sym d)), member_listed xs k) refl)
 
 -- a number against a list, one `if` after the other
 pub ruleset members = (member_here, member_next, member_last)

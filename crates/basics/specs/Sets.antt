@@ -1,10 +1,10 @@
 -- Numbers of a list, and numbers below another.
-use Rattle.std.specs.Prelude.{ℕ, zero, suc, Bool, true, false, ◌&&◌, ◌||◌, List, [], ◌∷◌, eqb}
+use Rattle.std.specs.Prelude.{ℕ, zero, suc, Bool, true, ◌&&◌, List, eqb}
+use Rattle.std.specs.List.{list_any}
 
 -- p is true of a number of the list
 abbrev pub any : (ℕ → Bool) → List ℕ → Bool
-any p [] = false
-any p (x ∷ xs) = p x || any p xs
+any p xs = list_any p xs
 
 -- x is in the list
 abbrev pub member : List ℕ → ℕ → Bool

@@ -10,24 +10,9 @@ use lib.Dec.{ltb}
 use lib.ListN.{length, take, drop, set, replicate, length-append, length-replicate, replicate-append-replicate}
 use lib.Seq.{sets, take_all, take-append-le, take-append-add}
 use borrow.Author.Tests.{eq-eqb, ne_eqb, lt-ltb, le-ltb, ltb-true, ltb-false}
-use Rattle.cases.specs.Numbers.{number_of, or_zero, most16}
-use Rattle.cases.specs.Spans.{span, count, up_to, rest}
+use Rattle.cases.specs.Spans.{count, up_to, rest}
 use Rattle.cases.specs.Table.{times_of, value_of, table_to, table_of, reached, kept_of}
 use Rattle.cases.proofs.Splits.{span_read}
-
--- an item with n stars
-module _ (item : List ℕ) (n : ℕ) (e : n ≡ count 42 item) where
-  pub times_one : n ≡ 0 → 1 ≡ times_of item
-  unfolding times_of
-  times_one h = rw (← e, eq-eqb _ _ h)
-
-  pub times_read : (p : List ℕ) (v : ℕ) → (n ≡ 0 → ⊥) → p ≡ span 42 0 item → v ≡ or_zero (number_of 10 most16 p) → v ≡ times_of item
-  unfolding times_of
-  times_read p v h f g = rw (← e, ne_eqb _ _ h, ← f) g
-
-  pub value_read : (p : List ℕ) (v : ℕ) → p ≡ span 42 n item → v ≡ or_zero (number_of 10 255 p) → v ≡ value_of item
-  unfolding value_of
-  value_read p v f g = rw (← e, ← f) g
 
 kept_low : (n : ℕ) → n < reached → kept_of n ≡ n
 unfolding kept_of
@@ -121,13 +106,13 @@ module _ (xs : List ℕ) (h : length xs ≡ 0) where
   none_laid l = rw (eq-eqb _ _ h)
 
 -- all items
-module _ (xs : List ℕ) (last i : ℕ) (h : length xs ≡ 0 → ⊥) (e : last ≡ count 32 xs) (f : i ≤ last + 1) (g : last < i) where
+module _ (xs : List ℕ) (last i : ℕ) (h : length xs ≡ 0 → ⊥) (e : last ≡ count 32 xs) (k : i ≡ last + 1) where
   all : table_to xs i ≡ table_of xs
   unfolding table_of
-  all = let k : i ≡ last + 1 = omega arith in rw (ne_eqb _ _ h, ← e, ← k)
+  all = rw (ne_eqb _ _ h, ← e, ← k)
 
   pub all_kept : (n : ℕ) → n ≡ kept_of (length (table_to xs i)) → n ≡ kept_of (length (table_of xs))
-  all_kept n k = k ∙ ap (λ r. kept_of (length r)) all
+  all_kept n l = l ∙ ap (λ r. kept_of (length r)) all
 
   pub all_laid : (l out : List ℕ) → out ≡ sets l 0 (take reached (table_to xs i)) → out ≡ sets l 0 (take reached (table_of xs))
-  all_laid l out k = k ∙ ap (λ r. sets l 0 (take reached r)) all
+  all_laid l out f = f ∙ ap (λ r. sets l 0 (take reached r)) all

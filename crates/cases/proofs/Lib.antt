@@ -1,6 +1,6 @@
-pub mod Asks
 pub mod Digits
 pub mod Fields
+pub mod Filling
 pub mod Laid
 pub mod Pairs
 pub mod Splits

@@ -1,15 +1,20 @@
 -- A walk over a text by positions is the definitions' walk over what is left of it. Assumes nothing.
-use Prim.Native.Nat.{ℕ, suc, ◌+◌, ◌-◌, ◌<◌, ◌≤◌}
-use mathlib.Core.Path.{◌≡◌, refl, sym, ◌∙◌, ap}
+use Prim.Native.Nat.{ℕ, zero, suc, ◌+◌, ◌-◌, ◌<◌, ◌≤◌}
+use mathlib.Core.Path.{◌≡◌, refl, sym, ◌∙◌, ap, subst}
 use mathlib.Core.Bool.{Bool, true, false, cond}
 use mathlib.Core.List.{List, [], ◌∷◌}
 use native.Mathlib.Numerals.{add-one}
 use native.Mathlib.Omega.{arith}
+use Rattle.std.specs.Prelude.{nat_eq}
+use Rattle.std.specs.List.{filter}
+use Rattle.std.specs.Cmp.Lexicographic.{pointwise, same_text, other_text}
+use Rattle.std.proofs.lemmas.List.{ext_get_or}
+use Rattle.basics.proofs.Tests.{both, by_test}
 use lib.Dec.{eqb, ltb}
 use lib.ListN.{length, get_or, take, drop, drop_of_length-le, length-drop}
 use lib.Seq.{drop-cons, drop-drop}
-use borrow.Author.Tests.{eq-eqb, ne_eqb, lt-ltb, le-ltb, ltb-false}
-use Rattle.basics.proofs.Sets.{every_more, every_fails}
+use borrow.Author.Tests.{eq-eqb, ne_eqb, ltb-false, eqb-true}
+use Rattle.basics.proofs.Sets.{every_at}
 use Rattle.basics.specs.Sets.{every}
 use Rattle.records.proofs.Unique.{unique}
 use Rattle.cases.specs.Spans.{before, up_to, after, next_from, rest, span, count, agree, equal}
@@ -31,22 +36,18 @@ module _ (s : ℕ) (xs : List ℕ) (i k : ℕ) where
     unfolding before
     end_over h = let z : before s (drop i xs) ≡ 0 = rw (drop_of_length-le xs h) in omega arith
 
-  module _ (n : ℕ) (e : n + count s (drop i xs) ≡ k) where
-    pub count_here : (n' : ℕ) → n' ≡ n + 1 → i < length xs → get_or xs i 0 ≡ s → n' + count s (drop (i + 1) xs) ≡ k
-    unfolding count
-    count_here n' f h m =
-        let z : count s (drop i xs) ≡ suc (count s (drop (i + 1) xs)) = rw (add-one i, drop-cons xs i 0 h, eq-eqb _ _ m) in
-        omega arith
+-- the separators are those that the library's count finds
+pub count_is : (s : ℕ) (xs : List ℕ) (n : ℕ) → n ≡ length (filter (λ x. eqb x s) xs) → n ≡ count s xs
+unfolding count
+count_is s xs n e = e ∙ go xs
+  where
+    one : (b : Bool) (x : ℕ) (ys : List ℕ) → length (cond b (x ∷ filter (λ y. eqb y s) ys) (filter (λ y. eqb y s) ys)) ≡ cond b (suc (length (filter (λ y. eqb y s) ys))) (length (filter (λ y. eqb y s) ys))
+    one true x ys = refl
+    one false x ys = refl
 
-    pub count_pass : (n' : ℕ) → n' ≡ n → i < length xs → (get_or xs i 0 ≡ s → ⊥) → n' + count s (drop (i + 1) xs) ≡ k
-    unfolding count
-    count_pass n' f h m =
-        let z : count s (drop i xs) ≡ count s (drop (i + 1) xs) = rw (add-one i, drop-cons xs i 0 h, ne_eqb _ _ m) in
-        omega arith
-
-    pub count_over : length xs ≤ i → n ≡ k
-    unfolding count
-    count_over h = let z : count s (drop i xs) ≡ 0 = rw (drop_of_length-le xs h) in omega arith
+    go : (ys : List ℕ) → length (filter (λ y. eqb y s) ys) ≡ count s ys
+    go [] = refl
+    go (y ∷ ys) = rw (← go ys) (one (eqb y s) y ys)
 
 within : (b : Bool) (m n : ℕ) → m ≤ n → cond b 0 (suc m) ≤ suc n
 within true m n h = omega arith
@@ -69,16 +70,8 @@ count_within s (x ∷ xs) = let h : count s xs ≤ length xs = count_within s xs
 pub count_bound : (s : ℕ) (xs : List ℕ) (n : ℕ) → n ≡ count s xs → n ≤ length xs
 count_bound s xs n e = rw e (count_within s xs)
 
--- where a span ends, and where the next begins
+-- where a span ends
 module _ (s : ℕ) (xs : List ℕ) (at end : ℕ) (e : end ≡ at + before s (drop at xs)) where
-  pub next_found : end < length xs → end + 1 ≡ next_from s at xs
-  unfolding next_from
-  next_found h = rw (← e, lt-ltb _ _ h)
-
-  pub next_none : length xs ≤ end → end ≡ next_from s at xs
-  unfolding next_from
-  next_none h = rw (← e, le-ltb _ _ h)
-
   pub span_within : at ≤ length xs → end ≤ length xs
   span_within h = omega (arith, before_within s (drop at xs), length-drop at xs)
 
@@ -121,20 +114,22 @@ module _ (s : ℕ) (xs : List ℕ) (i at : ℕ) (e : drop at xs ≡ rest s i xs)
   span_read p h = h ∙ ap (up_to s) e
 
 -- two texts compared byte by byte
-module _ (xs ys : List ℕ) where
-  pub equal_short : (length xs ≡ length ys → ⊥) → false ≡ equal xs ys
-  unfolding equal
-  equal_short h = rw (ne_eqb _ _ h)
+agree_all : (xs : List ℕ) (n : ℕ) → every (agree xs xs) n ≡ true
+unfolding every agree
+agree_all xs zero = refl
+agree_all xs (suc n) = rw (eq-eqb (get_or xs n 0) (get_or xs n 0) refl) (agree_all xs n)
 
-  module _ (h : length xs ≡ length ys) where
-    pub equal_fails : (i : ℕ) → i < length xs → (get_or xs i 0 ≡ get_or ys i 0 → ⊥) → false ≡ equal xs ys
-    unfolding equal agree
-    equal_fails i l n = rw (eq-eqb _ _ h) (sym (every_fails (agree xs ys) _ i l (ne_eqb _ _ n)))
+equal_self : (xs : List ℕ) → equal xs xs ≡ true
+unfolding equal
+equal_self xs = rw (eq-eqb (length xs) (length xs) refl) (agree_all xs (length xs))
 
-    pub equal_all : (i : ℕ) → every (agree xs ys) i ≡ true → i ≡ length xs → true ≡ equal xs ys
-    unfolding equal
-    equal_all i a e = rw (eq-eqb _ _ h, ← e) (sym a)
+equal_same : (xs ys : List ℕ) → equal xs ys ≡ true → xs ≡ ys
+unfolding equal agree
+equal_same xs ys h =
+    let p : _ = both (eqb (length xs) (length ys)) (every (agree xs ys) (length xs)) h in
+    ext_get_or 0 xs ys (eqb-true _ _ p.0) (λ i k. eqb-true _ _ (every_at (agree xs ys) (length xs) i p.1 k))
 
-  pub equal_more : (i : ℕ) → every (agree xs ys) i ≡ true → get_or xs i 0 ≡ get_or ys i 0 → every (agree xs ys) (i + 1) ≡ true
-  unfolding agree
-  equal_more i a e = every_more (agree xs ys) i a (eq-eqb _ _ e)
+-- what `==` says of two texts
+pub equal_told : (xs ys : List ℕ) (r : Bool) → r ≡ pointwise nat_eq xs ys → r ≡ equal xs ys
+equal_told xs ys true e = subst (λ (zs : List ℕ). true ≡ equal xs zs) (same_text xs ys e) (sym (equal_self xs))
+equal_told xs ys false e = by_test (equal xs ys) (λ h. absurd (other_text xs ys e (equal_same xs ys h))) (λ h. sym h)

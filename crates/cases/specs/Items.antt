@@ -1,13 +1,11 @@
 -- Items with one blank between, each of fields with one comma between.
-use Rattle.std.specs.Prelude.{ℕ, ◌+◌, Bool, false, cond, ◌&&◌, ◌||◌, List, eqb, ltb, length}
+use Rattle.std.specs.Prelude.{ℕ, ◌+◌, Bool, false, cond, ◌&&◌, ◌||◌, List, eqb, ltb, length, Some, None}
 use Rattle.records.specs.Refusals.{most}
 use Rattle.basics.specs.Sets.{every}
 use Rattle.cases.specs.declared.items.Kind.{Kind}
 use Rattle.cases.specs.declared.items.Kind.TheVariants.{Record, Part, Word, State, Joint, Row, Ahead, Cell, Sets, Block, Scalar}
-use Rattle.cases.specs.declared.numbers.Number.{Number}
-use Rattle.cases.specs.declared.numbers.Number.TheVariants.{Value, Nothing}
 use Rattle.cases.specs.Blocks.{block_field}
-use Rattle.cases.specs.Numbers.{number_of, is_number, or_zero, most16}
+use Rattle.cases.specs.Numbers.{number_of, is_number, or_zero, most16, Number}
 use Rattle.cases.specs.Spans.{span, count, letter}
 
 -- "record = 14 fields with commas between", a part and a word state have 4, a word has 2, a record of `next` 3, a line state and
@@ -115,8 +113,8 @@ item_count kind blanks = cond (ltb blanks (most_of kind)) (blanks + 1) (most_of 
 -- "empty, or items with exactly one blank between, none before or after": their number
 unfoldable pub items_of : Kind → List ℕ → Number
 items_of kind xs =
-    cond (eqb (length xs) 0) (Value 0)
-    (cond (every (item_fits kind xs) (count 32 xs + 1)) (Value (item_count kind (count 32 xs))) Nothing)
+    cond (eqb (length xs) 0) (Some 0)
+    (cond (every (item_fits kind xs) (count 32 xs + 1)) (Some (item_count kind (count 32 xs))) None)
 
 -- the value of field k of an item
 unfoldable pub field_of : ℕ → ℕ → ℕ → List ℕ → ℕ

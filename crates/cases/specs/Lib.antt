@@ -1,4 +1,5 @@
 pub mod Blocks
+pub mod Columns
 pub mod Items
 pub mod Lines
 pub mod Numbers

@@ -1,11 +1,13 @@
 // Items with one blank between, each of fields with one comma between: whether they are of the layout, and their number.
+#![tactic(auto, unfolding(crate::specs::Items::fits, crate::specs::Items::record_field, crate::specs::Items::part_field, crate::specs::Items::state_field, crate::specs::Items::dash_or, crate::specs::Items::row_field, crate::specs::Items::cell_field, crate::specs::Items::is_field, crate::specs::Items::item_count))]
+
 ghost use Rattle.std.specs.Prelude.{◌≡◌, ◌≤◌};
 ghost use Rattle.cases.specs.Numbers.{radix_of};
 ghost use Rattle.cases.specs.Items as Items;
 ghost use Rattle.cases.specs.Items.{commas_of, record_field, part_field, state_field, dash_or, row_field, cell_field, is_field, is_item, most_blocks, most_of, item_count, items_of};
 
 use crate::blocks::is_block;
-use crate::numbers::{Base, MOST16, Number, read_number};
+use crate::numbers::{Base, MOST16, read_number};
 use crate::spans::{count, letter, next_of, span, span_at};
 use records::MOST;
 
@@ -38,94 +40,75 @@ fn commas(kind: Kind) -> usize
 {
     match kind {
         Kind::Record => 13,
-        Kind::Part => 3,
-        Kind::Word => 1,
-        Kind::State => 3,
+        Kind::Part | Kind::State => 3,
         Kind::Joint => 2,
-        Kind::Row => 1,
-        Kind::Ahead => 0,
-        Kind::Cell => 0,
-        Kind::Sets => 1,
-        Kind::Block => 0,
-        Kind::Scalar => 0,
+        Kind::Word | Kind::Row | Kind::Sets => 1,
+        Kind::Ahead | Kind::Cell | Kind::Block | Kind::Scalar => 0,
     }
 }
 
 pub(crate) fn fits(digits: &[u8], base: Base, most: u32) -> bool
     ensures { result ≡ Items.fits (radix_of base) most digits.now }
 {
-    match read_number(digits, base, most) {
-        Number::Value(_) => true,
-        Number::Nothing => false,
-    }
+    read_number(digits, base, most).is_some()
 }
 
 fn is_record_field(k: usize, digits: &[u8]) -> bool
     ensures { result ≡ record_field k digits.now }
 {
-    if k == 0 {
-        return fits(digits, Base::Hexadecimal, 0xFFFFFFFF);
+    match k {
+        0 => fits(digits, Base::Hexadecimal, u32::MAX),
+        12 => fits(digits, Base::Decimal, MOST16),
+        _ => fits(digits, Base::Decimal, 255),
     }
-    if k == 12 {
-        return fits(digits, Base::Decimal, MOST16);
-    }
-    fits(digits, Base::Decimal, 255)
 }
 
 fn is_part_field(k: usize, digits: &[u8]) -> bool
     ensures { result ≡ part_field k digits.now }
 {
-    if k == 0 {
-        return fits(digits, Base::Hexadecimal, 0xFFFFFFFF);
+    match k {
+        0 => fits(digits, Base::Hexadecimal, u32::MAX),
+        _ => fits(digits, Base::Decimal, 255),
     }
-    fits(digits, Base::Decimal, 255)
 }
 
 fn is_state_field(k: usize, digits: &[u8]) -> bool
     ensures { result ≡ state_field k digits.now }
 {
-    if k == 0 {
-        return fits(digits, Base::Decimal, 1);
+    match k {
+        0 | 2 => fits(digits, Base::Decimal, 1),
+        _ => fits(digits, Base::Decimal, 255),
     }
-    if k == 2 {
-        return fits(digits, Base::Decimal, 1);
-    }
-    fits(digits, Base::Decimal, 255)
 }
 
 // "- or a decimal up to 255"
 fn is_dash_or(digits: &[u8]) -> bool
     ensures { result ≡ dash_or digits.now }
 {
-    if letter(digits) == b'-' {
-        return true;
-    }
-    fits(digits, Base::Decimal, 255)
+    letter(digits) == b'-' || fits(digits, Base::Decimal, 255)
 }
 
 fn is_row_field(k: usize, digits: &[u8]) -> bool
     ensures { result ≡ row_field k digits.now }
 {
-    if k == 0 {
-        return fits(digits, Base::Decimal, 255);
+    match k {
+        0 => fits(digits, Base::Decimal, 255),
+        _ => is_dash_or(digits),
     }
-    is_dash_or(digits)
 }
 
 // "cell or COUNT*cell"
 fn is_cell_field(digits: &[u8]) -> bool
     ensures { result ≡ cell_field digits.now }
 {
-    let stars = count(digits, b'*');
-    if stars == 0 {
-        return fits(digits, Base::Decimal, 255);
-    }
-    if stars == 1 {
-        if fits(span(digits, b'*', 0), Base::Decimal, MOST16) {
-            return fits(span(digits, b'*', 1), Base::Decimal, 255);
+    match count(digits, b'*') {
+        0 => fits(digits, Base::Decimal, 255),
+        1 => {
+            fits(span(digits, b'*', 0), Base::Decimal, MOST16)
+                && fits(span(digits, b'*', 1), Base::Decimal, 255)
         }
+        _ => false,
     }
-    false
 }
 
 fn is_field(kind: Kind, k: usize, digits: &[u8]) -> bool
@@ -134,15 +117,14 @@ fn is_field(kind: Kind, k: usize, digits: &[u8]) -> bool
     match kind {
         Kind::Record => is_record_field(k, digits),
         Kind::Part => is_part_field(k, digits),
-        Kind::Word => fits(digits, Base::Decimal, 255),
+        Kind::Word | Kind::Joint => fits(digits, Base::Decimal, 255),
         Kind::State => is_state_field(k, digits),
-        Kind::Joint => fits(digits, Base::Decimal, 255),
         Kind::Row => is_row_field(k, digits),
         Kind::Ahead => is_dash_or(digits),
         Kind::Cell => is_cell_field(digits),
         Kind::Sets => fits(digits, Base::Decimal, 4096),
         Kind::Block => is_block(digits),
-        Kind::Scalar => fits(digits, Base::Hexadecimal, 0xFFFFFFFF),
+        Kind::Scalar => fits(digits, Base::Hexadecimal, u32::MAX),
     }
 }
 
@@ -153,11 +135,8 @@ pub fn is_item(item: &[u8], kind: Kind) -> bool
     if count(item, b',') != last {
         return false;
     }
-    let mut k: usize = 0;
-    while k <= last {
-        if is_field(kind, k, span(item, b',', k)) {
-            k += 1;
-        } else {
+    for k in 0..last + 1 {
+        if !is_field(kind, k, span(item, b',', k)) {
             return false;
         }
     }
@@ -176,50 +155,32 @@ fn most_items(kind: Kind) -> usize
     ensures upper_bound { result ≤ most_blocks }
 {
     match kind {
-        Kind::Record => MOST,
-        Kind::Part => MOST,
-        Kind::Word => MOST,
-        Kind::State => MOST,
-        Kind::Joint => MOST,
-        Kind::Row => MOST,
-        Kind::Ahead => MOST,
-        Kind::Cell => MOST,
-        Kind::Sets => MOST,
         Kind::Block => MOST_BLOCKS,
         Kind::Scalar => MOST_SCALARS,
+        _ => MOST,
     }
 }
 
 fn item_count(kind: Kind, blanks: usize) -> u32
     ensures { result ≡ item_count kind blanks }
 {
-    let most = most_items(kind);
-    if blanks < most {
-        return blanks as u32 + 1;
-    }
-    most as u32 + 1
+    blanks.min(most_items(kind)) as u32 + 1
 }
 
-// The number of items, or nothing where one is not of the layout. Of any more than a text may have, one more is enough to be refused.
-pub fn count_items(section: &[u8], kind: Kind) -> Number
+// The number of items, or none where one is not of the layout. Of any more than a text may have, one more is enough to be refused.
+pub fn count_items(section: &[u8], kind: Kind) -> Option<u32>
     ensures { result ≡ items_of kind section.now }
 {
-    if section.len() == 0 {
-        return Number::Value(0);
+    if section.is_empty() {
+        return Some(0);
     }
     let last = count(section, b' ');
     let mut at: usize = 0;
-    let mut i: usize = 0;
-    while i < last {
-        if is_item(span_at(section, at, b' '), kind) {
-            at = next_of(section, at, b' ');
-            i += 1;
-        } else {
-            return Number::Nothing;
+    for _ in 0..last + 1 {
+        if !is_item(span_at(section, at, b' '), kind) {
+            return None;
         }
+        at = next_of(section, at, b' ');
     }
-    if is_item(span_at(section, at, b' '), kind) {
-        return Number::Value(item_count(kind, last));
-    }
-    Number::Nothing
+    Some(item_count(kind, last))
 }

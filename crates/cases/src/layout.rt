@@ -1,18 +1,20 @@
 // The lines: what each asks for, in the order of oracle/README.md.
+#![tactic(auto, unfolding(crate::specs::Lines::skipped, crate::specs::Lines::plain_asked, crate::specs::Lines::full_asked, crate::specs::Lines::khmer_asked, crate::specs::Lines::asked_of, crate::specs::Lines::mode_of, crate::specs::Lines::text_line, crate::specs::Lines::machine_of, crate::specs::Lines::run_line, crate::specs::Lines::state_of, crate::specs::Lines::ahead_of, crate::specs::Lines::step_line, crate::specs::Lines::previous_of, crate::specs::Lines::line_state_of, crate::specs::Lines::line_step, crate::specs::Lines::boundary_step, crate::specs::Lines::boundaries, crate::specs::Lines::task_of, crate::specs::Lines::strength_of, crate::specs::Lines::own_of, crate::specs::Lines::lent_line, crate::specs::Lines::kind_line, crate::specs::Lines::line_of), using(crate::proofs::Splits::equal_told))]
+
 ghost use Rattle.std.specs.Prelude.{◌≡◌};
 ghost use Rattle.cases.specs.Lines as Lines;
-ghost use Rattle.cases.specs.Lines.{skipped, full_asked, plain_asked, khmer_asked, asked_of, text_in, moded, text_line, marked_line, run_line, state_of, ahead_of, step_of, step_line, previous_of, line_state_of, line_step, boundary_of, boundary_step, lent_line, table_line, strength_line, kind_line, line_of};
+ghost use Rattle.cases.specs.Lines.{skipped, asked_of, mode_of, text_line, machine_of, run_line, state_of, ahead_of, step_line, previous_of, line_state_of, line_step, boundary_step, task_of, strength_of, own_of, lent_line, kind_line, line_of};
 
 use crate::columns::field8;
 use crate::files::files_line;
 use crate::items::{Kind, count_items, fits, is_item};
-use crate::numbers::{Base, MOST16, Number, read_number};
-use crate::spans::{count, letter, same, span};
+use crate::numbers::{Base, MOST16, read_number};
+use crate::spans::{count, letter, span};
 use classes::Mode;
-use lines::{LineState, Previous, Strength};
+use lines::{LineState, Strength};
 use records::Parser;
-use records::cells::cell8;
-use words::{Next, WordState};
+use records::cells::cell;
+use words::WordState;
 
 #[derive(Clone, Copy)]
 pub enum Line {
@@ -38,7 +40,7 @@ pub enum Line {
         state: WordState,
         class: u8,
         pictograph: u8,
-        next: Next,
+        next: Option<u8>,
     },
     // What is asked over a table: the crate's own, or one that `lay_table` lays from part 2 of the line.
     Lent {
@@ -77,7 +79,7 @@ pub enum Task {
         line: u8,
         word: u8,
         pictograph: u8,
-        next: Next,
+        next: Option<u8>,
     },
     // The columns are read by `column8` from part 4 of the line.
     Boundaries {
@@ -86,175 +88,81 @@ pub enum Task {
     },
 }
 
-// Whom a kind and a script name.
+// Whom a kind and a script name: a parser, and whether it makes a full run.
 #[derive(Clone, Copy)]
-pub enum Asked {
-    Of { parser: Parser, full: bool },
-    Nobody,
+struct Asked {
+    parser: Parser,
+    full: bool,
 }
 
 fn is_skipped(line: &[u8]) -> bool
     ensures { result ≡ skipped line.now }
 {
-    let blanks = count(line, b' ');
-    if blanks == line.len() {
-        return true;
-    }
-    cell8(line, 0) == b'#'
+    count(line, b' ') == line.len() || cell(line, 0, 0) == b'#'
 }
 
-fn plain_asked(kind: u8) -> Asked
-    ensures { result ≡ plain_asked kind }
-{
-    if kind == b'S' {
-        return Asked::Of {
-            parser: Parser::Simple,
-            full: false,
-        };
-    }
-    if kind == b'M' {
-        return Asked::Of {
-            parser: Parser::Myanmar,
-            full: false,
-        };
-    }
-    if kind == b'C' {
-        return Asked::Of {
-            parser: Parser::Complex,
-            full: false,
-        };
-    }
-    full_asked(kind)
-}
-
-fn full_asked(kind: u8) -> Asked
-    ensures { result ≡ full_asked kind }
-{
-    if kind == b's' {
-        return Asked::Of {
-            parser: Parser::Simple,
-            full: true,
-        };
-    }
-    if kind == b'm' {
-        return Asked::Of {
-            parser: Parser::Myanmar,
-            full: true,
-        };
-    }
-    if kind == b'c' {
-        return Asked::Of {
-            parser: Parser::Complex,
-            full: true,
-        };
-    }
-    Asked::Nobody
-}
-
-fn khmer_asked(kind: u8) -> Asked
-    ensures { result ≡ khmer_asked kind }
-{
-    if kind == b'C' {
-        return Asked::Of {
-            parser: Parser::Khmer,
-            full: false,
-        };
-    }
-    if kind == b'c' {
-        return Asked::Of {
-            parser: Parser::Khmer,
-            full: true,
-        };
-    }
-    Asked::Nobody
-}
-
-fn asked_of(kind: u8, script: u8) -> Asked
+fn asked_of(kind: u8, script: u8) -> Option<Asked>
     ensures { result ≡ asked_of kind script }
 {
-    if script == b'-' {
-        return plain_asked(kind);
-    }
-    if script == b'K' {
-        return khmer_asked(kind);
-    }
-    Asked::Nobody
+    let (parser, full) = match (script, kind) {
+        (b'-', b'S') => (Parser::Simple, false),
+        (b'-', b'M') => (Parser::Myanmar, false),
+        (b'-', b'C') => (Parser::Complex, false),
+        (b'-', b's') => (Parser::Simple, true),
+        (b'-', b'm') => (Parser::Myanmar, true),
+        (b'-', b'c') => (Parser::Complex, true),
+        (b'K', b'C') => (Parser::Khmer, false),
+        (b'K', b'c') => (Parser::Khmer, true),
+        _ => return None,
+    };
+    Some(Asked { parser, full })
 }
 
-fn text_in(line: &[u8], parser: Parser, mode: Mode, full: bool) -> Line
-    ensures { result ≡ text_in parser mode full line.now }
+fn mode_of(name: &[u8]) -> Option<Mode>
+    ensures { result ≡ mode_of name.now }
 {
-    let Number::Value(number) = read_number(span(line, b';', 3), Base::Decimal, MOST16) else {
-        return Line::NotOfLayout;
-    };
-    let Number::Value(records) = count_items(span(line, b';', 4), Kind::Record) else {
-        return Line::NotOfLayout;
-    };
-    let Number::Value(parts) = count_items(span(line, b';', 5), Kind::Part) else {
-        return Line::NotOfLayout;
-    };
-    Line::Text {
-        parser,
-        mode,
-        full,
-        number,
-        records,
-        parts,
+    if name == b"crate".as_slice() {
+        Some(Mode::Crate)
+    } else if name == b"whole".as_slice() {
+        Some(Mode::Whole)
+    } else {
+        None
     }
 }
 
-fn text_moded(line: &[u8], parser: Parser, full: bool) -> Line
-    ensures { result ≡ moded parser full line.now }
-{
-    let mode = span(line, b';', 1);
-    if same(mode, b"crate") {
-        return text_in(line, parser, Mode::Crate, full);
-    }
-    if same(mode, b"whole") {
-        return text_in(line, parser, Mode::Whole, full);
-    }
-    Line::NotOfLayout
-}
-
-fn text_line(line: &[u8], kind: u8) -> Line
+fn text_line(line: &[u8], kind: u8) -> Option<Line>
     ensures { result ≡ text_line kind line.now }
 {
-    let script = letter(span(line, b';', 2));
-    match asked_of(kind, script) {
-        Asked::Of { parser, full } => text_moded(line, parser, full),
-        Asked::Nobody => Line::NotOfLayout,
-    }
+    let Asked { parser, full } = asked_of(kind, letter(span(line, b';', 2)))?;
+    Some(Line::Text {
+        parser,
+        mode: mode_of(span(line, b';', 1))?,
+        full,
+        number: read_number(span(line, b';', 3), Base::Decimal, MOST16)?,
+        records: count_items(span(line, b';', 4), Kind::Record)?,
+        parts: count_items(span(line, b';', 5), Kind::Part)?,
+    })
 }
 
-fn marked_line(line: &[u8], machine: Machine) -> Line
-    ensures { result ≡ marked_line machine line.now }
-{
-    let Number::Value(cells) = read_number(span(line, b';', 1), Base::Decimal, MOST16) else {
-        return Line::NotOfLayout;
-    };
-    let Number::Value(records) = count_items(span(line, b';', 2), Kind::Word) else {
-        return Line::NotOfLayout;
-    };
-    Line::Marked {
-        machine,
-        cells,
-        records,
-    }
-}
-
-fn run_line(line: &[u8], kind: u8) -> Line
+fn run_line(line: &[u8], kind: u8) -> Option<Line>
     ensures { result ≡ run_line kind line.now }
 {
-    if kind == b'W' {
-        return marked_line(line, Machine::Words);
+    Some(Line::Marked {
+        machine: machine_of(kind)?,
+        cells: read_number(span(line, b';', 1), Base::Decimal, MOST16)?,
+        records: count_items(span(line, b';', 2), Kind::Word)?,
+    })
+}
+
+fn machine_of(kind: u8) -> Option<Machine>
+    ensures { result ≡ machine_of kind }
+{
+    match kind {
+        b'W' => Some(Machine::Words),
+        b'G' => Some(Machine::Back),
+        b'g' => Some(Machine::Forward),
+        _ => None,
     }
-    if kind == b'G' {
-        return marked_line(line, Machine::Back);
-    }
-    if kind == b'g' {
-        return marked_line(line, Machine::Forward);
-    }
-    Line::NotOfLayout
 }
 
 fn state_of(item: &[u8]) -> WordState
@@ -268,47 +176,41 @@ fn state_of(item: &[u8]) -> WordState
     }
 }
 
-fn ahead_of(item: &[u8]) -> Next
+fn ahead_of(item: &[u8]) -> Option<u8>
     ensures { result ≡ ahead_of item.now }
 {
     if letter(item) == b'-' {
-        return Next::End;
-    }
-    Next::Class(field8(item, 0))
-}
-
-fn step_of(line: &[u8]) -> Line
-    ensures { result ≡ step_of line.now }
-{
-    let word = span(line, b';', 2);
-    Line::Step {
-        state: state_of(span(line, b';', 1)),
-        class: field8(word, 0),
-        pictograph: field8(word, 1),
-        next: ahead_of(span(line, b';', 3)),
+        None
+    } else {
+        Some(field8(item, 0))
     }
 }
 
-fn step_line(line: &[u8]) -> Line
+fn step_line(line: &[u8]) -> Option<Line>
     ensures { result ≡ step_line line.now }
 {
-    if is_item(span(line, b';', 1), Kind::State) {
-        if is_item(span(line, b';', 2), Kind::Word) {
-            if is_item(span(line, b';', 3), Kind::Ahead) {
-                return step_of(line);
-            }
-        }
+    let state = span(line, b';', 1);
+    let word = span(line, b';', 2);
+    let next = span(line, b';', 3);
+    if !is_item(state, Kind::State) || !is_item(word, Kind::Word) || !is_item(next, Kind::Ahead) {
+        return None;
     }
-    Line::NotOfLayout
+    Some(Line::Step {
+        state: state_of(state),
+        class: field8(word, 0),
+        pictograph: field8(word, 1),
+        next: ahead_of(next),
+    })
 }
 
-fn previous_of(item: &[u8]) -> Previous
+fn previous_of(item: &[u8]) -> Option<u8>
     ensures { result ≡ previous_of item.now }
 {
     if letter(span(item, b',', 1)) == b'-' {
-        return Previous::Nothing;
+        None
+    } else {
+        Some(field8(item, 1))
     }
-    Previous::Class(field8(item, 1))
 }
 
 fn line_state_of(item: &[u8]) -> LineState
@@ -320,148 +222,110 @@ fn line_state_of(item: &[u8]) -> LineState
     }
 }
 
-fn line_step(line: &[u8], strength: Strength, own: bool) -> Line
-    ensures { result ≡ line_step strength own line.now }
+fn line_step(line: &[u8]) -> Option<Task>
+    ensures { result ≡ line_step line.now }
 {
     let state = span(line, b';', 3);
     let class = span(line, b';', 4);
-    if is_item(state, Kind::Row) {
-        if fits(class, Base::Decimal, 255) {
-            let task = Task::LineStep {
-                state: line_state_of(state),
-                class: field8(class, 0),
-            };
-            return Line::Lent {
-                strength,
-                own,
-                task,
-            };
-        }
+    if !is_item(state, Kind::Row) || !fits(class, Base::Decimal, 255) {
+        return None;
     }
-    Line::NotOfLayout
+    Some(Task::LineStep {
+        state: line_state_of(state),
+        class: field8(class, 0),
+    })
 }
 
-fn boundary_of(line: &[u8], strength: Strength, own: bool) -> Line
-    ensures { result ≡ boundary_of strength own line.now }
+fn boundary_step(line: &[u8]) -> Option<Task>
+    ensures { result ≡ boundary_step line.now }
 {
+    let line_state = span(line, b';', 3);
+    let word_state = span(line, b';', 4);
     let joint = span(line, b';', 5);
-    let task = Task::BoundaryStep {
-        line_state: line_state_of(span(line, b';', 3)),
-        word_state: state_of(span(line, b';', 4)),
+    let next = span(line, b';', 6);
+    if !is_item(line_state, Kind::Row)
+        || !is_item(word_state, Kind::State)
+        || !is_item(joint, Kind::Joint)
+        || !is_item(next, Kind::Ahead)
+    {
+        return None;
+    }
+    Some(Task::BoundaryStep {
+        line_state: line_state_of(line_state),
+        word_state: state_of(word_state),
         line: field8(joint, 0),
         word: field8(joint, 1),
         pictograph: field8(joint, 2),
-        next: ahead_of(span(line, b';', 6)),
-    };
-    Line::Lent {
-        strength,
-        own,
-        task,
-    }
+        next: ahead_of(next),
+    })
 }
 
-fn boundary_step(line: &[u8], strength: Strength, own: bool) -> Line
-    ensures { result ≡ boundary_step strength own line.now }
+fn boundaries(line: &[u8]) -> Option<Task>
+    ensures { result ≡ Lines.boundaries line.now }
 {
-    if is_item(span(line, b';', 3), Kind::Row) {
-        if is_item(span(line, b';', 4), Kind::State) {
-            if is_item(span(line, b';', 5), Kind::Joint) {
-                if is_item(span(line, b';', 6), Kind::Ahead) {
-                    return boundary_of(line, strength, own);
-                }
-            }
-        }
-    }
-    Line::NotOfLayout
+    Some(Task::Boundaries {
+        cells: read_number(span(line, b';', 3), Base::Decimal, MOST16)?,
+        records: count_items(span(line, b';', 4), Kind::Joint)?,
+    })
 }
 
-fn boundaries(line: &[u8], strength: Strength, own: bool) -> Line
-    ensures { result ≡ Lines.boundaries strength own line.now }
+fn task_of(line: &[u8], kind: u8) -> Option<Task>
+    ensures { result ≡ task_of kind line.now }
 {
-    let Number::Value(cells) = read_number(span(line, b';', 3), Base::Decimal, MOST16) else {
-        return Line::NotOfLayout;
-    };
-    let Number::Value(records) = count_items(span(line, b';', 4), Kind::Joint) else {
-        return Line::NotOfLayout;
-    };
-    let task = Task::Boundaries { cells, records };
-    Line::Lent {
-        strength,
-        own,
-        task,
+    match (count(line, b';'), kind) {
+        (4, b'l') => line_step(line),
+        (4, b'L') => boundaries(line),
+        (6, b'n') => boundary_step(line),
+        _ => None,
     }
 }
 
-fn lent_line(line: &[u8], kind: u8, strength: Strength, own: bool) -> Line
-    ensures { result ≡ lent_line kind strength own line.now }
+fn strength_of(name: &[u8]) -> Option<Strength>
+    ensures { result ≡ strength_of name.now }
 {
-    let semicolons = count(line, b';');
-    if semicolons == 4 {
-        if kind == b'l' {
-            return line_step(line, strength, own);
-        }
-        if kind == b'L' {
-            return boundaries(line, strength, own);
-        }
-        return Line::NotOfLayout;
+    if name == b"Normal".as_slice() {
+        Some(Strength::Normal)
+    } else if name == b"BreakAll".as_slice() {
+        Some(Strength::BreakAll)
+    } else if name == b"KeepAll".as_slice() {
+        Some(Strength::KeepAll)
+    } else {
+        None
     }
-    if semicolons == 6 {
-        if kind == b'n' {
-            return boundary_step(line, strength, own);
-        }
-    }
-    Line::NotOfLayout
 }
 
-fn table_line(line: &[u8], kind: u8, strength: Strength) -> Line
-    ensures { result ≡ table_line kind strength line.now }
+// Whether the table is the crate's own, and none where it is not of the layout.
+fn is_own(table: &[u8]) -> Option<bool>
+    ensures { result ≡ own_of table.now }
 {
-    let table = span(line, b';', 2);
-    if same(table, b"crate") {
-        return lent_line(line, kind, strength, true);
+    if table == b"crate".as_slice() {
+        return Some(true);
     }
-    match count_items(table, Kind::Cell) {
-        Number::Value(_) => lent_line(line, kind, strength, false),
-        Number::Nothing => Line::NotOfLayout,
-    }
+    count_items(table, Kind::Cell)?;
+    Some(false)
 }
 
-fn strength_line(line: &[u8], kind: u8) -> Line
-    ensures { result ≡ strength_line kind line.now }
+fn lent_line(line: &[u8], kind: u8) -> Option<Line>
+    ensures { result ≡ lent_line kind line.now }
 {
-    let strength = span(line, b';', 1);
-    if same(strength, b"Normal") {
-        return table_line(line, kind, Strength::Normal);
-    }
-    if same(strength, b"BreakAll") {
-        return table_line(line, kind, Strength::BreakAll);
-    }
-    if same(strength, b"KeepAll") {
-        return table_line(line, kind, Strength::KeepAll);
-    }
-    Line::NotOfLayout
+    Some(Line::Lent {
+        strength: strength_of(span(line, b';', 1))?,
+        own: is_own(span(line, b';', 2))?,
+        task: task_of(line, kind)?,
+    })
 }
 
-fn kind_line(line: &[u8], kind: u8) -> Line
+fn kind_line(line: &[u8], kind: u8) -> Option<Line>
     ensures { result ≡ kind_line kind line.now }
 {
-    let semicolons = count(line, b';');
-    if semicolons == 5 {
-        return text_line(line, kind);
+    match (count(line, b';'), kind) {
+        (5, _) => text_line(line, kind),
+        (2, _) => run_line(line, kind),
+        (3, b'w') => step_line(line),
+        (3, _) => None,
+        (_, b'F') => files_line(line),
+        _ => lent_line(line, kind),
     }
-    if semicolons == 2 {
-        return run_line(line, kind);
-    }
-    if semicolons == 3 {
-        if kind == b'w' {
-            return step_line(line);
-        }
-        return Line::NotOfLayout;
-    }
-    if kind == b'F' {
-        return files_line(line);
-    }
-    strength_line(line, kind)
 }
 
 pub fn read(line: &[u8]) -> Line
@@ -470,5 +334,5 @@ pub fn read(line: &[u8]) -> Line
     if is_skipped(line) {
         return Line::Skipped;
     }
-    kind_line(line, letter(span(line, b';', 0)))
+    kind_line(line, letter(span(line, b';', 0))).unwrap_or(Line::NotOfLayout)
 }

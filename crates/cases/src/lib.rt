@@ -14,6 +14,6 @@ pub use blocks::bytes;
 pub use columns::{column8, column16, column32};
 pub use items::{Kind, MOST_SCALARS, count_items};
 pub use layout::{Line, Machine, Task, read};
-pub use numbers::{Base, Number, read_number};
+pub use numbers::{Base, read_number};
 pub use spans::{letter, next_of, span, span_at};
 pub use table::{Table, lay_table};

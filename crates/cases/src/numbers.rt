@@ -1,4 +1,6 @@
 // Decimal and hexadecimal numbers.
+#![tactic(auto, unfolding(crate::specs::Numbers::digit_of))]
+
 ghost use Rattle.std.specs.Prelude.{◌≡◌, ◌≤◌};
 ghost use Rattle.cases.specs.Numbers.{radix_of, digit_of, number_of};
 
@@ -11,15 +13,6 @@ pub enum Base {
     Hexadecimal,
 }
 
-#[derive(Clone, Copy)]
-pub enum Number {
-    Value(u32),
-    Nothing,
-}
-
-// What no digit has.
-pub(crate) const NO_DIGIT: u64 = 16;
-
 fn radix(base: Base) -> u64
     ensures value { result ≡ radix_of base }
     ensures upper_bound { result ≤ 16 }
@@ -30,51 +23,36 @@ fn radix(base: Base) -> u64
     }
 }
 
-pub(crate) fn digit(byte: u8) -> u64
+// The value of a digit of either case, or none.
+pub(crate) fn digit(byte: u8) -> Option<u8>
     ensures { result ≡ digit_of byte }
 {
-    let x = byte as u64;
-    if x < 48 {
-        return NO_DIGIT;
+    match byte {
+        b'0'..=b'9' => Some(byte - b'0'),
+        b'A'..=b'F' => Some(byte - b'A' + 10),
+        b'a'..=b'f' => Some(byte - b'a' + 10),
+        _ => None,
     }
-    if x < 58 {
-        return x - 48;
-    }
-    if x < 65 {
-        return NO_DIGIT;
-    }
-    if x < 71 {
-        return x - 55;
-    }
-    if x < 97 {
-        return NO_DIGIT;
-    }
-    if x < 103 {
-        return x - 87;
-    }
-    NO_DIGIT
 }
 
 // The number that all of the digits write, up to `most`.
-pub fn read_number(digits: &[u8], base: Base, most: u32) -> Number
+pub fn read_number(digits: &[u8], base: Base, most: u32) -> Option<u32>
     ensures { result ≡ number_of (radix_of base) most digits.now }
 {
-    if digits.len() == 0 {
-        return Number::Nothing;
+    if digits.is_empty() {
+        return None;
     }
-    let by = radix(base);
+    let radix = radix(base);
     let mut v: u64 = 0;
-    let mut i: usize = 0;
-    while i < digits.len() {
-        let d = digit(digits[i]);
-        if by <= d {
-            return Number::Nothing;
+    for &byte in digits {
+        let d = u64::from(digit(byte)?);
+        if radix <= d {
+            return None;
         }
-        v = v * by + d;
-        if (most as u64) < v {
-            return Number::Nothing;
+        v = v * radix + d;
+        if u64::from(most) < v {
+            return None;
         }
-        i += 1;
     }
-    Number::Value(v as u32)
+    Some(v as u32)
 }

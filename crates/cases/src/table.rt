@@ -1,10 +1,12 @@
 // The table that a line lends, cell by cell.
+#![tactic(auto, unfolding(crate::specs::Table::times_of, crate::specs::Table::value_of, crate::specs::Table::kept_of))]
+
 ghost use Rattle.std.specs.Prelude.{◌≡◌, ◌-◌, ◌≤◌, length, take, replicate};
 ghost use Rattle.std.proofs.lemmas.List.Edits.{sets};
 ghost use Rattle.cases.specs.Numbers.{most16};
 ghost use Rattle.cases.specs.Table.{times_of, value_of, table_of, reached, kept_of, most_kept};
 
-use crate::columns::{least, value};
+use crate::columns::value;
 use crate::numbers::{Base, MOST16};
 use crate::spans::{count, next_of, span, span_at};
 
@@ -19,10 +21,10 @@ fn times(item: &[u8]) -> usize
     ensures value { result ≡ times_of item.now }
     ensures upper_bound { result ≤ most16 }
 {
-    if count(item, b'*') == 0 {
-        return 1;
+    match count(item, b'*') {
+        0 => 1,
+        _ => value(span(item, b'*', 0), Base::Decimal, MOST16) as usize,
     }
-    value(span(item, b'*', 0), Base::Decimal, MOST16) as usize
 }
 
 fn cell(item: &[u8]) -> u8
@@ -35,20 +37,15 @@ fn kept(n: usize) -> usize
     ensures value { result ≡ kept_of n }
     ensures upper_bound { result ≤ most_kept }
 {
-    if n < REACHED {
-        return n;
-    }
-    REACHED + n % 44
+    if n < REACHED { n } else { REACHED + n % 44 }
 }
 
 fn lay(out: &mut Table, from: usize, end: usize, v: u8)
     requires { end ≤ reached }
     ensures { out.new ≡ sets out.old from (replicate (end - from) v) }
 {
-    let mut i = from;
-    while i < end {
+    for i in from..end {
         out[i] = v;
-        i += 1;
     }
 }
 
@@ -57,20 +54,17 @@ pub fn lay_table(section: &[u8], out: &mut Table) -> usize
     ensures value { result ≡ kept_of (length (table_of section.now)) }
     ensures out_after { out.new ≡ sets out.old 0 (take reached (table_of section.now)) }
 {
-    if section.len() == 0 {
+    if section.is_empty() {
         return 0;
     }
-    let last = count(section, b' ');
     let mut n: usize = 0;
     let mut at: usize = 0;
-    let mut i: usize = 0;
-    while i <= last {
+    for _ in 0..count(section, b' ') + 1 {
         let item = span_at(section, at, b' ');
         let end = n + times(item);
-        lay(out, n, least(end, REACHED), cell(item));
+        lay(out, n, end.min(REACHED), cell(item));
         n = kept(end);
         at = next_of(section, at, b' ');
-        i += 1;
     }
     n
 }

@@ -1,5 +1,6 @@
 // The named values of SCOPE: the five lists of classes, the classes that a pushed character gets, the scalars that the parsers name,
-// and the two modes.
+// and the two modes. The codes of a list are numbers and no enum: they stand in columns that C lends, where any byte may stand, and a check
+// judges them. A constant has no contract, so each list has a function `codes` that holds its constants to the definitions.
 #![tactic(auto)]
 
 pub mod category;
@@ -14,18 +15,18 @@ ghost use Rattle.classes.specs.Mode.{mode_code};
 ghost use Rattle.classes.specs.Shape.{shape_code};
 
 // Crate mode answers as the Rust does; whole mode is ours and repeats no character (SCOPE 1.3).
-#[derive(Clone, Copy)]
+#[derive(Clone, Copy, Debug, PartialEq, Eq)]
 pub enum Mode {
     Crate,
     Whole,
 }
 
-impl Mode {
-    // The number by which a caller asks for the mode.
-    pub fn code(self) -> u8
-        ensures { result ≡ mode_code self }
-    {
-        match self {
+// The number by which a caller asks for the mode.
+impl From<Mode> for u8 {
+    ghost from_gives = { λ mode code. code ≡ mode_code mode };
+
+    fn from(mode: Mode) -> u8 {
+        match mode {
             Mode::Crate => 0,
             Mode::Whole => 1,
         }
@@ -33,7 +34,7 @@ impl Mode {
 }
 
 // The class of a pushed character: the `ShapeClass` of the three Rust parsers.
-#[derive(Clone, Copy)]
+#[derive(Clone, Copy, Debug, PartialEq, Eq)]
 pub enum Shape {
     Base,
     Mark,
@@ -52,12 +53,12 @@ pub enum Shape {
     Other,
 }
 
-impl Shape {
-    // The number that a full run writes for the class.
-    pub fn code(self) -> u8
-        ensures { result ≡ shape_code self }
-    {
-        match self {
+// The number that a full run writes for the class.
+impl From<Shape> for u8 {
+    ghost from_gives = { λ shape code. code ≡ shape_code shape };
+
+    fn from(shape: Shape) -> u8 {
+        match shape {
             Shape::Base => 0,
             Shape::Mark => 1,
             Shape::Control => 2,

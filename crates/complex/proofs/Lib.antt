@@ -1,4 +1,3 @@
-pub mod Given
 pub mod Progress
 pub mod Spent
 pub mod Ignored

@@ -1,6 +1,6 @@
 // The complex parser, src/text/cluster/complex.rs: its functions by their names, the longer ones in pieces. A call of `parse` makes
 // one cluster; it is begun with `joins`, since U+034F is stepped over. `khmer` says whether the script is Khmer.
-#![tactic(auto)]
+#![tactic(auto, unfolding(parse::specs::Rule::run, crate::specs::Grammar::base_vs, crate::specs::Grammar::symbol_marks, crate::specs::Grammar::consonant_marks, crate::specs::Grammar::is_coeng, crate::specs::Grammar::halant, crate::specs::Grammar::opens_halant, crate::specs::Grammar::halant_base, crate::specs::Grammar::is_vowel_modifier, crate::specs::Grammar::vowel_modifier, crate::specs::Grammar::medials, crate::specs::Grammar::vowels, crate::specs::Grammar::finals, crate::specs::Grammar::is_symbol_mark, crate::specs::Grammar::given, crate::specs::Grammar::halant_number, crate::specs::Grammar::by_kind))]
 
 ghost use Rattle.std.specs.Prelude.{true, false, ◌≡◌};
 ghost use Rattle.classes.specs.UseClass.{HN};
@@ -14,34 +14,26 @@ use classes::use_class::{
 };
 use classes::{Shape, scalar};
 use parse::Parse;
-use parse::state::token_at;
 
 pub fn parse(mut s: Parse, text: &[u64], khmer: bool) -> Parse
     ensures { result ≡ run (cluster khmer) text.now s }
 {
     if s.emoji(text) {
         s = s.parse_emoji(text);
-        return s;
-    }
-    if s.kind_is(text, O) {
+    } else if s.kind_is(text, O) {
         s = s.parse_other(text);
-        return s;
-    }
-    if s.kind_in3(text, IND, Rsv, WJ) {
+    } else if s.kind_in(text, [IND, Rsv, WJ]) {
         s = accept_base(s, text);
-        return s;
-    }
-    if s.kind_is(text, R) {
+    } else if s.kind_is(text, R) {
         s = s.accept_any_as(text, Shape::Reph);
         s = parse_standard(s, text, khmer, false);
-        return s;
-    }
-    if s.kind_is(text, CS) {
+    } else if s.kind_is(text, CS) {
         s = s.accept_any_as(text, Shape::Other);
         s = parse_standard(s, text, khmer, false);
-        return s;
+    } else {
+        s = parse_letter(s, text, khmer);
     }
-    parse_letter(s, text, khmer)
+    s
 }
 
 // The arms from `B | GB` on.
@@ -50,23 +42,17 @@ fn parse_letter(mut s: Parse, text: &[u64], khmer: bool) -> Parse
 {
     if s.kind_is(text, B) {
         s = parse_standard(s, text, khmer, false);
-        return s;
-    }
-    if s.kind_is(text, GB) {
+    } else if s.kind_is(text, GB) {
         s = parse_standard(s, text, khmer, true);
-        return s;
-    }
-    if s.kind_is(text, N) {
+    } else if s.kind_is(text, N) {
         s = accept_base(s, text);
         s = parse_halant_numbers(s, text);
-        return s;
-    }
-    if s.kind_is(text, S) {
+    } else if s.kind_is(text, S) {
         s = accept_base(s, text);
         s = accept_symbol_marks(s, text);
-        return s;
+    } else {
+        s = parse_standard(s, text, khmer, false);
     }
-    s = parse_standard(s, text, khmer, false);
     s
 }
 
@@ -95,31 +81,26 @@ fn accept_consonant_marks(s: Parse, text: &[u64]) -> Parse
 fn accept_by_kind(s: Parse, text: &[u64]) -> Parse
     ensures { result ≡ run by_kind text.now s }
 {
-    let at = s.at;
-    let class = to_shape_class(token::kind(token_at(text, at)));
-    s.accept_any_as(text, class)
+    s.accept_any_as(text, to_shape_class(s.kind(text)))
 }
 
 fn parse_standard(mut s: Parse, text: &[u64], khmer: bool, symbol: bool) -> Parse
     ensures { result ≡ run (standard khmer symbol) text.now s }
 {
-    if s.kind_in2(text, B, GB) {
+    if s.kind_in(text, [B, GB]) {
         s = s.accept_any_as(text, Shape::Base);
         s = parse_standard_tail(s, text, khmer, symbol);
-        return s;
+    } else {
+        s = s.set_broken(text);
+        s = accept_by_kind(s, text);
     }
-    s = s.set_broken(text);
-    s = accept_by_kind(s, text);
     s
 }
 
 fn is_symbol_mark(s: Parse, text: &[u64], symbol: bool) -> bool
     ensures { result ≡ holds text.now (is_symbol_mark symbol) s }
 {
-    if symbol {
-        return s.kind_in2(text, SMAbv, SMBlw);
-    }
-    false
+    symbol && s.kind_in(text, [SMAbv, SMBlw])
 }
 
 fn parse_standard_tail(mut s: Parse, text: &[u64], khmer: bool, symbol: bool) -> Parse
@@ -128,14 +109,14 @@ fn parse_standard_tail(mut s: Parse, text: &[u64], khmer: bool, symbol: bool) ->
     s = s.accept_as(text, VS, Shape::Vs);
     if is_symbol_mark(s, text, symbol) {
         s = accept_symbol_marks(s, text);
-        return s;
+    } else {
+        s = accept_consonant_marks(s, text);
+        s = parse_halant_bases(s, text, khmer);
+        s = accept_medials(s, text);
+        s = accept_vowels(s, text);
+        s = parse_vowel_modifiers(s, text);
+        s = accept_finals(s, text);
     }
-    s = accept_consonant_marks(s, text);
-    s = parse_halant_bases(s, text, khmer);
-    s = accept_medials(s, text);
-    s = accept_vowels(s, text);
-    s = parse_vowel_modifiers(s, text);
-    s = accept_finals(s, text);
     s
 }
 
@@ -171,25 +152,22 @@ fn accept_finals(s: Parse, text: &[u64]) -> Parse
 fn is_vowel_modifier(s: Parse, text: &[u64]) -> bool
     ensures { result ≡ holds text.now is_vowel_modifier s }
 {
-    if s.kind_is(text, VMPre) {
-        return true;
-    }
-    s.kind_in4(text, VMAbv, VMBlw, VMPst, H)
+    s.kind_in(text, [VMPre, VMAbv, VMBlw, VMPst, H])
 }
 
 fn parse_vowel_modifier(s: Parse, text: &[u64]) -> Parse
     ensures { result ≡ run vowel_modifier text.now s }
 {
     if s.kind_is(text, VMPre) {
-        return s.accept_any_as(text, Shape::VMPre);
+        s.accept_any_as(text, Shape::VMPre)
+    } else {
+        s.accept_any_as(text, Shape::Other)
     }
-    s.accept_any_as(text, Shape::Other)
 }
 
-fn parse_vowel_modifiers(s: Parse, text: &[u64]) -> Parse
+fn parse_vowel_modifiers(mut s: Parse, text: &[u64]) -> Parse
     ensures { result ≡ run (while is_vowel_modifier vowel_modifier) text.now s }
 {
-    let mut s = s;
     while is_vowel_modifier(s, text) {
         s = parse_vowel_modifier(s, text);
     }
@@ -199,25 +177,23 @@ fn parse_vowel_modifiers(s: Parse, text: &[u64]) -> Parse
 fn is_coeng(s: Parse, text: &[u64], khmer: bool) -> bool
     ensures { result ≡ holds text.now (is_coeng khmer) s }
 {
-    if khmer {
-        return s.scalar_is(text, scalar::COENG);
-    }
-    false
+    khmer && s.scalar_is(text, scalar::COENG)
 }
 
 fn accept_halant(s: Parse, text: &[u64], khmer: bool) -> Parse
     ensures { result ≡ run (halant khmer) text.now s }
 {
     if is_coeng(s, text, khmer) {
-        return s.accept_any_as(text, Shape::Other);
+        s.accept_any_as(text, Shape::Other)
+    } else {
+        s.accept_any_as(text, Shape::Halant)
     }
-    s.accept_any_as(text, Shape::Halant)
 }
 
 fn opens_halant(s: Parse, text: &[u64]) -> bool
     ensures { result ≡ holds text.now opens_halant s }
 {
-    s.kind_in2(text, SUB, H)
+    s.kind_in(text, [SUB, H])
 }
 
 fn parse_halant_base(mut s: Parse, text: &[u64], khmer: bool) -> Parse
@@ -226,22 +202,21 @@ fn parse_halant_base(mut s: Parse, text: &[u64], khmer: bool) -> Parse
     if s.kind_is(text, SUB) {
         s = s.accept_any_as(text, Shape::Other);
         s = accept_consonant_marks(s, text);
-        return s;
+    } else {
+        s = accept_halant(s, text, khmer);
+        if s.kind_is(text, B) {
+            s = accept_base(s, text);
+            s = accept_consonant_marks(s, text);
+        } else {
+            s = s.stop(text);
+        }
     }
-    s = accept_halant(s, text, khmer);
-    if s.kind_is(text, B) {
-        s = accept_base(s, text);
-        s = accept_consonant_marks(s, text);
-        return s;
-    }
-    s = s.stop(text);
     s
 }
 
-fn parse_halant_bases(s: Parse, text: &[u64], khmer: bool) -> Parse
+fn parse_halant_bases(mut s: Parse, text: &[u64], khmer: bool) -> Parse
     ensures { result ≡ run (while opens_halant (halant_base khmer)) text.now s }
 {
-    let mut s = s;
     while opens_halant(s, text) {
         s = parse_halant_base(s, text, khmer);
     }
@@ -254,16 +229,15 @@ fn parse_halant_number(mut s: Parse, text: &[u64]) -> Parse
     s = s.accept_any_as(text, Shape::Halant);
     if s.kind_is(text, N) {
         s = accept_base(s, text);
-        return s;
+    } else {
+        s = s.stop(text);
     }
-    s = s.stop(text);
     s
 }
 
-fn parse_halant_numbers(s: Parse, text: &[u64]) -> Parse
+fn parse_halant_numbers(mut s: Parse, text: &[u64]) -> Parse
     ensures { result ≡ run (while (is HN) halant_number) text.now s }
 {
-    let mut s = s;
     while s.kind_is(text, HN) {
         s = parse_halant_number(s, text);
     }
@@ -273,29 +247,15 @@ fn parse_halant_numbers(s: Parse, text: &[u64]) -> Parse
 fn to_shape_class(kind: u8) -> Shape
     ensures { result ≡ to_shape_class kind }
 {
-    if kind == B {
-        return Shape::Base;
+    match kind {
+        B => Shape::Base,
+        H => Shape::Halant,
+        VPre => Shape::VPre,
+        VMPre => Shape::VMPre,
+        VBlw => Shape::VBlw,
+        R => Shape::Reph,
+        ZWNJ => Shape::Zwnj,
+        ZWJ => Shape::Zwj,
+        _ => Shape::Other,
     }
-    if kind == H {
-        return Shape::Halant;
-    }
-    if kind == VPre {
-        return Shape::VPre;
-    }
-    if kind == VMPre {
-        return Shape::VMPre;
-    }
-    if kind == VBlw {
-        return Shape::VBlw;
-    }
-    if kind == R {
-        return Shape::Reph;
-    }
-    if kind == ZWNJ {
-        return Shape::Zwnj;
-    }
-    if kind == ZWJ {
-        return Shape::Zwj;
-    }
-    Shape::Other
 }

@@ -1,10 +1,11 @@
-// What the programs share: text, numbers and the parts of a refusal on standard output.
+// What the programs share: text, numbers and the parts of a refusal on standard output, and standard input.
 #![tactic(auto)]
 
 ghost use Rattle.std.specs.Prelude.{◌≡◌};
 ghost use Rattle.console.specs.Letters.{side_letter};
 
 use records::{Refusal, Side};
+use std::io::{Read, Stdin};
 
 // The descriptor of standard output.
 const STDOUT: i32 = 1;
@@ -17,9 +18,9 @@ pub fn decimal(n: u64) {
     io::print_decimal(STDOUT, n);
 }
 
-// Capital digits, four at least.
+// Digits in lower case, four at least.
 pub fn hex(n: u32) {
-    io::print_hex(STDOUT, n as u64, 4);
+    io::print_hex(STDOUT, u64::from(n), 4);
 }
 
 // The letter that a line of answers has for a side.
@@ -33,12 +34,26 @@ pub fn side_letter(side: Side) -> u8
     }
 }
 
-// "R NUMBER INDEX SIDE"
+// "R NUMBER INDEX SIDE". It is no Display: what is written goes to standard output as bytes, through no formatter.
 pub fn refusal(r: Refusal) {
-    let side = r.side;
     write(b"R ");
-    decimal(r.number as u64);
+    decimal(u64::from(r.number));
     write(b" ");
     decimal(r.index as u64);
-    write(&[b' ', side_letter(side)]);
+    write(&[b' ', side_letter(r.side)]);
+}
+
+// Hands on what each read of the input gives, as it comes: a read does not wait for a full buffer, so that each line can be answered as
+// it is written. A read that fails ends the input. Nothing says that it ends, so the reads are counted up to a number that no run comes
+// to.
+pub fn each_chunk<F: FnMut(&[u8])>(mut input: Stdin, mut f: F)
+    requires { F.IsAlwaysCallable f }
+{
+    let mut chunk = io::large_buffer();
+    for _ in 0..u64::MAX {
+        match input.read(&mut chunk) {
+            Ok(n) if 0 < n => f(&chunk[..n]),
+            _ => return,
+        }
+    }
 }

@@ -1,124 +1,97 @@
 // Columns of one length, and one column of another.
-use crate::verdicts;
-use console::write;
-use records::cells::{first8, first16, first32};
-use records::{MOST, Parser, Verdict, check_in};
+use crate::verdicts::{digit, verdict};
+use console::{decimal, write};
+use records::cells::first;
+use records::{Columns, MOST, Parser, check, check_words};
 
 // One cell more than a column may have.
 const LONGER: usize = 4097;
 
-// Column k is `other` cells long, the rest `usual`.
-fn column8(s: &[u8], column: u8, k: u8, other: usize, usual: usize) -> &[u8] {
-    if column == k {
-        return first8(s, other);
-    }
-    first8(s, usual)
-}
+const BYTES: [u8; LONGER] = [0; LONGER];
 
-fn column16(s: &[u16], column: u8, k: u8, other: usize, usual: usize) -> &[u16] {
-    if column == k {
-        return first16(s, other);
-    }
-    first16(s, usual)
-}
+const SHORTS: [u16; LONGER] = [0; LONGER];
 
-fn column32(s: &[u32], column: u8, k: u8, other: usize, usual: usize) -> &[u32] {
-    if column == k {
-        return first32(s, other);
-    }
-    first32(s, usual)
-}
+const WORDS: [u32; LONGER] = [0; LONGER];
 
-fn check<'a>(
-    b: &'a [u8],
-    h: &'a [u16],
-    w: &'a [u32],
-    k: u8,
-    other: usize,
-    usual: usize,
-) -> Verdict {
-    let wides = [
-        column32(w, 0, k, other, usual),
-        column32(w, 14, k, other, usual),
-    ];
-    let bytes = [
-        column8(b, 1, k, other, usual),
-        column8(b, 2, k, other, usual),
-        column8(b, 3, k, other, usual),
-        column8(b, 4, k, other, usual),
-        column8(b, 5, k, other, usual),
-        column8(b, 6, k, other, usual),
-        column8(b, 7, k, other, usual),
-        column8(b, 8, k, other, usual),
-        column8(b, 9, k, other, usual),
-        column8(b, 10, k, other, usual),
-        column8(b, 11, k, other, usual),
-        column8(b, 13, k, other, usual),
-        column8(b, 15, k, other, usual),
-        column8(b, 16, k, other, usual),
-        column8(b, 17, k, other, usual),
-    ];
-    check_in(
-        Parser::Khmer,
-        &wides,
-        &bytes,
-        column16(h, 12, k, other, usual),
-    )
-}
-
-// One digit or dot for each of the 18 columns, and one more where none is of another length.
-fn each_column<'a>(b: &'a [u8], h: &'a [u16], w: &'a [u32], other: usize, usual: usize) {
-    console::decimal(other as u64);
+// One digit or dot for each of the 18 columns, of which that one is `other` cells long and the rest `usual`, and one more where
+// none is of another length.
+fn each_column(other: usize, usual: usize) {
+    decimal(other as u64);
     write(b" among ");
-    console::decimal(usual as u64);
+    decimal(usual as u64);
     write(b" ");
     for k in 0..19u8 {
-        verdicts::digit(check(b, h, w, k, other, usual));
+        let len = |column: u8| if column == k { other } else { usual };
+        digit(check(
+            Parser::Khmer,
+            &Columns {
+                scalars: first(&WORDS, len(0)),
+                breaks: first(&BYTES, len(1)),
+                uses: first(&BYTES, len(2)),
+                myanmars: first(&BYTES, len(3)),
+                categories: first(&BYTES, len(4)),
+                words: first(&BYTES, len(5)),
+                semojis: first(&BYTES, len(6)),
+                memojis: first(&BYTES, len(7)),
+                cemojis: first(&BYTES, len(8)),
+                pictographs: first(&BYTES, len(9)),
+                selectors: first(&BYTES, len(10)),
+                decomposes: first(&BYTES, len(11)),
+                firsts: first(&SHORTS, len(12)),
+                counts: first(&BYTES, len(13)),
+                pscalars: first(&WORDS, len(14)),
+                pbreaks: first(&BYTES, len(15)),
+                puses: first(&BYTES, len(16)),
+                pcategories: first(&BYTES, len(17)),
+            },
+        ));
     }
     write(b"\n");
 }
 
 pub(crate) fn columns() {
-    let b = [0u8; LONGER];
-    let h = [0u16; LONGER];
-    let w = [0u32; LONGER];
-    each_column(&b, &h, &w, 0, 0);
-    each_column(&b, &h, &w, 1, 0);
-    each_column(&b, &h, &w, 0, 1);
-    each_column(&b, &h, &w, MOST - 1, MOST);
-    each_column(&b, &h, &w, MOST, MOST);
-    each_column(&b, &h, &w, LONGER, MOST);
-    each_column(&b, &h, &w, LONGER, LONGER);
+    for (other, usual) in [
+        (0, 0),
+        (1, 0),
+        (0, 1),
+        (MOST - 1, MOST),
+        (MOST, MOST),
+        (LONGER, MOST),
+        (LONGER, LONGER),
+    ] {
+        each_column(other, usual);
+    }
 }
 
-fn word_columns(b: &[u8], words: usize, pictographs: usize) {
-    console::decimal(words as u64);
+fn word_columns(words: usize, pictographs: usize) {
+    decimal(words as u64);
     write(b" and ");
-    console::decimal(pictographs as u64);
-    verdicts::verdict(records::check_words(first8(b, words), first8(b, pictographs)));
+    decimal(pictographs as u64);
+    verdict(check_words(first(&BYTES, words), first(&BYTES, pictographs)));
     write(b"\n");
 }
 
 fn word_cells(class: u8, pictograph: u8) {
-    console::decimal(class as u64);
+    decimal(u64::from(class));
     write(b",");
-    console::decimal(pictograph as u64);
-    verdicts::verdict(records::check_words(&[0, class], &[0, pictograph]));
+    decimal(u64::from(pictograph));
+    verdict(check_words(&[0, class], &[0, pictograph]));
     write(b"\n");
 }
 
 pub(crate) fn words() {
-    let b = [0u8; LONGER];
-    word_columns(&b, 0, 0);
-    word_columns(&b, MOST, MOST);
-    word_columns(&b, LONGER, LONGER);
-    word_columns(&b, LONGER, MOST);
-    word_columns(&b, MOST, LONGER);
-    word_columns(&b, 1, 0);
-    word_columns(&b, 0, 1);
-    word_cells(0, 0);
-    word_cells(18, 1);
-    word_cells(19, 0);
-    word_cells(0, 2);
-    word_cells(255, 255);
+    for (words, pictographs) in [
+        (0, 0),
+        (MOST, MOST),
+        (LONGER, LONGER),
+        (LONGER, MOST),
+        (MOST, LONGER),
+        (1, 0),
+        (0, 1),
+    ] {
+        word_columns(words, pictographs);
+    }
+    for (class, pictograph) in [(0, 0), (18, 1), (19, 0), (0, 2), (255, 255)] {
+        word_cells(class, pictograph);
+    }
 }

@@ -1,30 +1,22 @@
 // Texts of two records and two parts: every cell is 0, and every scalar U+0041, but for at most three cells.
-ghost use Rattle.std.specs.Prelude.{◌≡◌, ◌<◌, length};
-
-use crate::verdicts;
+use crate::verdicts::{digit, verdict};
 use classes::{category, cluster_break, myanmar_class, scalar, use_class, word_break};
-use console::write;
-use records::{Parser, Verdict, check_in};
+use console::{decimal, hex, write};
+use records::{Columns, Parser, Refusal, check};
 
-// A cell of the 18 columns, counted from 0 in the order of the check's parameters, and its value.
+const PARSERS: [Parser; 4] = [
+    Parser::Simple,
+    Parser::Myanmar,
+    Parser::Complex,
+    Parser::Khmer,
+];
+
+// A cell of the 18 columns, counted from 0 in their order, and its value.
 #[derive(Clone, Copy)]
 struct Cell {
     column: u8,
     index: u8,
     value: u32,
-}
-
-const NO_CELL: Cell = Cell {
-    column: 18,
-    index: 0,
-    value: 0,
-};
-
-#[derive(Clone, Copy)]
-struct Cells {
-    a: Cell,
-    b: Cell,
-    c: Cell,
 }
 
 fn at(column: u8, index: u8, value: u32) -> Cell {
@@ -35,147 +27,86 @@ fn at(column: u8, index: u8, value: u32) -> Cell {
     }
 }
 
-fn one(a: Cell) -> Cells {
-    Cells {
-        a,
-        b: NO_CELL,
-        c: NO_CELL,
-    }
+fn value(cells: &[Cell], column: u8, index: u8, usual: u32) -> u32 {
+    cells
+        .iter()
+        .find(|c| c.column == column && c.index == index)
+        .map_or(usual, |c| c.value)
 }
 
-fn two(a: Cell, b: Cell) -> Cells {
-    Cells { a, b, c: NO_CELL }
+fn wides(cells: &[Cell], column: u8) -> [u32; 2] {
+    [0, 1].map(|i| value(cells, column, i, 0x41))
 }
 
-fn is_at(c: Cell, column: u8, index: u8) -> bool {
-    if c.column == column {
-        return c.index == index;
-    }
-    false
+fn bytes(cells: &[Cell], column: u8) -> [u8; 2] {
+    [0, 1].map(|i| (value(cells, column, i, 0) % 256) as u8)
 }
 
-fn value(cells: Cells, column: u8, index: u8, usual: u32) -> u32 {
-    let a = cells.a;
-    let b = cells.b;
-    let c = cells.c;
-    if is_at(a, column, index) {
-        return a.value;
-    }
-    if is_at(b, column, index) {
-        return b.value;
-    }
-    if is_at(c, column, index) {
-        return c.value;
-    }
-    usual
+fn shorts(cells: &[Cell], column: u8) -> [u16; 2] {
+    [0, 1].map(|i| (value(cells, column, i, 0) % 65536) as u16)
 }
 
-// Two cells for each of the 18 columns, one column after the other: of these the columns of bytes are cut.
-fn all_cells(cells: Cells) -> [u8; 36] {
-    let mut all = [0u8; 36];
-    for i in 0..36u8 {
-        all[i as usize] = (value(cells, i / 2, i % 2, 0) % 256) as u8;
-    }
-    all
-}
-
-fn column8(all: &[u8], column: usize) -> &[u8]
-    requires { (column < 18) × (length all.now ≡ 36) }
-{
-    let from = 2 * column;
-    let to = from + 2;
-    &all[from..to]
-}
-
-fn column16(cells: Cells, column: u8) -> [u16; 2] {
-    [
-        (value(cells, column, 0, 0) % 65536) as u16,
-        (value(cells, column, 1, 0) % 65536) as u16,
-    ]
-}
-
-fn column32(cells: Cells, column: u8) -> [u32; 2] {
-    [value(cells, column, 0, 0x41), value(cells, column, 1, 0x41)]
-}
-
-fn check_two<'a>(
-    parser: Parser,
-    scalars: &'a [u32; 2],
-    pscalars: &'a [u32; 2],
-    all: &'a [u8; 36],
-    firsts: &'a [u16; 2],
-) -> Verdict {
-    let wides: [&[u32]; 2] = [scalars, pscalars];
-    let bytes = [
-        column8(all, 1),
-        column8(all, 2),
-        column8(all, 3),
-        column8(all, 4),
-        column8(all, 5),
-        column8(all, 6),
-        column8(all, 7),
-        column8(all, 8),
-        column8(all, 9),
-        column8(all, 10),
-        column8(all, 11),
-        column8(all, 13),
-        column8(all, 15),
-        column8(all, 16),
-        column8(all, 17),
-    ];
-    check_in(parser, &wides, &bytes, firsts)
-}
-
-fn check(parser: Parser, cells: Cells) -> Verdict {
-    check_two(
+fn checked(parser: Parser, cells: &[Cell]) -> Result<(), Refusal> {
+    check(
         parser,
-        &column32(cells, 0),
-        &column32(cells, 14),
-        &all_cells(cells),
-        &column16(cells, 12),
+        &Columns {
+            scalars: &wides(cells, 0),
+            breaks: &bytes(cells, 1),
+            uses: &bytes(cells, 2),
+            myanmars: &bytes(cells, 3),
+            categories: &bytes(cells, 4),
+            words: &bytes(cells, 5),
+            semojis: &bytes(cells, 6),
+            memojis: &bytes(cells, 7),
+            cemojis: &bytes(cells, 8),
+            pictographs: &bytes(cells, 9),
+            selectors: &bytes(cells, 10),
+            decomposes: &bytes(cells, 11),
+            firsts: &shorts(cells, 12),
+            counts: &bytes(cells, 13),
+            pscalars: &wides(cells, 14),
+            pbreaks: &bytes(cells, 15),
+            puses: &bytes(cells, 16),
+            pcategories: &bytes(cells, 17),
+        },
     )
 }
 
 // "COLUMN.INDEX=VALUE" and the verdicts for the four parsers.
 fn single(column: u8, index: u8, value: u32) {
-    console::decimal(column as u64);
+    decimal(u64::from(column));
     write(b".");
-    console::decimal(index as u64);
+    decimal(u64::from(index));
     write(b"=");
-    console::hex(value);
-    for k in 0..4 {
-        verdicts::verdict(check(verdicts::parser(k), one(at(column, index, value))));
+    hex(value);
+    for parser in PARSERS {
+        verdict(checked(parser, &[at(column, index, value)]));
     }
     write(b"\n");
 }
 
 // The lowest code, the last good one, the first bad one and the largest, at both indices.
 fn code_edges(column: u8, len: u8) {
-    for index in 0..2u8 {
-        single(column, index, 0);
-        single(column, index, before(len));
-        single(column, index, len as u32);
-        single(column, index, 255);
+    for index in 0..2 {
+        for value in [0, len.saturating_sub(1), len, 255] {
+            single(column, index, u32::from(value));
+        }
     }
 }
 
-fn before(len: u8) -> u32 {
-    if 0 < len { len as u32 - 1 } else { 0 }
-}
-
 fn scalar_edges(column: u8) {
-    single(column, 0, 0);
-    single(column, 1, 0xD7FF);
-    single(column, 0, 0xD800);
-    single(column, 1, 0xDFFF);
-    single(column, 0, 0xE000);
-    single(column, 0, 0x10FFFF);
-    single(column, 1, 0x110000);
-    single(column, 0, 0xFFFFFFFF);
-}
-
-fn mark_edges(column: u8) {
-    code_edges(column, 2);
+    for (index, value) in [
+        (0, 0),
+        (1, 0xD7FF),
+        (0, 0xD800),
+        (1, 0xDFFF),
+        (0, 0xE000),
+        (0, 0x10FFFF),
+        (1, 0x110000),
+        (0, 0xFFFFFFFF),
+    ] {
+        single(column, index, value);
+    }
 }
 
 pub(crate) fn single_cells() {
@@ -185,8 +116,9 @@ pub(crate) fn single_cells() {
     code_edges(3, myanmar_class::LEN);
     code_edges(4, category::LEN);
     code_edges(5, word_break::LEN);
-    for column in 6..12u8 {
-        mark_edges(column);
+    // the columns of marks
+    for column in 6..12 {
+        code_edges(column, 2);
     }
     scalar_edges(14);
     code_edges(15, cluster_break::LEN);
@@ -196,32 +128,30 @@ pub(crate) fn single_cells() {
 
 // "FIRST+COUNT" of the second record, against two parts.
 fn run_of_parts(first: u32, count: u32) {
-    console::decimal(first as u64);
+    decimal(u64::from(first));
     write(b"+");
-    console::decimal(count as u64);
-    verdicts::verdict(check(Parser::Simple, two(at(12, 1, first), at(13, 1, count))));
+    decimal(u64::from(count));
+    verdict(checked(Parser::Simple, &[at(12, 1, first), at(13, 1, count)]));
     write(b"\n");
 }
 
 pub(crate) fn runs_of_parts() {
-    for count in 0..5u32 {
-        run_of_parts(0, count);
-        run_of_parts(1, count);
-        run_of_parts(2, count);
-        run_of_parts(3, count);
-        run_of_parts(65535, count);
+    for count in 0..5 {
+        for first in [0, 1, 2, 3, 65535] {
+            run_of_parts(first, count);
+        }
     }
     run_of_parts(0, 255);
 }
 
 // One digit or dot for each USE class: the scalar with that class, in a record (columns 0 and 2) or in a part (14 and 16).
 fn classes_of(parser: Parser, scalar_column: u8, use_column: u8, x: u32) {
-    console::hex(x);
+    hex(x);
     write(b" ");
     for class in 0..use_class::LEN {
-        verdicts::digit(check(
+        digit(checked(
             parser,
-            two(at(scalar_column, 1, x), at(use_column, 1, class as u32)),
+            &[at(scalar_column, 1, x), at(use_column, 1, u32::from(class))],
         ));
     }
     write(b"\n");
@@ -229,64 +159,50 @@ fn classes_of(parser: Parser, scalar_column: u8, use_column: u8, x: u32) {
 
 // U+034F and its two neighbours.
 pub(crate) fn joiners() {
-    for k in 0..4 {
+    for parser in PARSERS {
         for x in scalar::CGJ - 1..scalar::CGJ + 2 {
-            classes_of(verdicts::parser(k), 0, 2, x);
-            classes_of(verdicts::parser(k), 14, 16, x);
+            classes_of(parser, 0, 2, x);
+            classes_of(parser, 14, 16, x);
         }
     }
 }
 
-// One digit or dot for each of U+17BD to U+17C6 as the first record, with the mark, the count and the first part's scalar given.
-fn signs_of(parser: Parser, decompose: u32, count: u32, part: u32) {
-    for x in 0x17BD..0x17C7u32 {
-        let cells = Cells {
-            a: at(0, 0, x),
-            b: at(13, 0, count),
-            c: at(14, 0, part),
-        };
-        if decompose == 0 {
-            verdicts::digit(check(parser, cells));
-        } else {
-            verdicts::digit(check(
-                parser,
-                Cells {
-                    a: at(0, 0, x),
-                    b: at(11, 0, decompose),
-                    c: at(13, 0, count),
-                },
-            ));
-        }
+// One digit or dot for each of U+17BD to U+17C6 as the first record, with two cells given: the mark and the count, or the count and
+// the first part's scalar.
+fn signs_of(parser: Parser, a: Cell, b: Cell) {
+    for x in 0x17BD..0x17C7 {
+        digit(checked(parser, &[at(0, 0, x), a, b]));
     }
     write(b"\n");
 }
 
 pub(crate) fn khmer_signs() {
-    for k in 0..4 {
-        for count in 0..3u32 {
-            signs_of(verdicts::parser(k), 0, count, scalar::KHMER_E);
-            signs_of(verdicts::parser(k), 0, count, scalar::KHMER_E - 1);
-            signs_of(verdicts::parser(k), 1, count, 0);
+    for parser in PARSERS {
+        for count in 0..3 {
+            let count = at(13, 0, count);
+            signs_of(parser, count, at(14, 0, scalar::KHMER_E));
+            signs_of(parser, count, at(14, 0, scalar::KHMER_E - 1));
+            signs_of(parser, at(11, 0, 1), count);
         }
     }
 }
 
-fn order(a: Cell, b: Cell) {
-    verdicts::verdict(check(Parser::Khmer, two(a, b)));
-    write(b"\n");
-}
-
 // Two faults at once: which one is named.
 pub(crate) fn orders() {
-    // a part's before a record's, whatever their numbers
-    order(at(0, 0, 0xD800), at(17, 1, 3));
-    // the lower index before the lower number
-    order(at(0, 1, 0xD800), at(13, 0, 4));
-    order(at(14, 1, 0xD800), at(15, 0, 14));
-    // the lower number within one index
-    order(at(1, 0, 14), at(0, 0, 0x110000));
-    order(at(12, 0, 3), at(5, 0, 19));
-    order(at(13, 0, 4), at(11, 0, 2));
-    // 7 after every record's
-    order(at(0, 0, scalar::KHMER_OE), at(13, 1, 4));
+    for faults in [
+        // a part's before a record's, whatever their numbers
+        [at(0, 0, 0xD800), at(17, 1, 3)],
+        // the lower index before the lower number
+        [at(0, 1, 0xD800), at(13, 0, 4)],
+        [at(14, 1, 0xD800), at(15, 0, 14)],
+        // the lower number within one index
+        [at(1, 0, 14), at(0, 0, 0x110000)],
+        [at(12, 0, 3), at(5, 0, 19)],
+        [at(13, 0, 4), at(11, 0, 2)],
+        // 7 after every record's
+        [at(0, 0, scalar::KHMER_OE), at(13, 1, 4)],
+    ] {
+        verdict(checked(Parser::Khmer, &faults));
+        write(b"\n");
+    }
 }

@@ -1,32 +1,22 @@
-// What is printed of a verdict, and the small pieces of a line.
-use console::{decimal, write};
-use records::{Parser, Verdict};
+// What is printed of a verdict.
+use console::{decimal, refusal, write};
+use records::Refusal;
 
 // " ok", or " R NUMBER INDEX SIDE".
-pub(crate) fn verdict(v: Verdict) {
+pub(crate) fn verdict(v: Result<(), Refusal>) {
     match v {
-        Verdict::Accepted => write(b" ok"),
-        Verdict::Refused(refusal) => {
+        Ok(()) => write(b" ok"),
+        Err(r) => {
             write(b" ");
-            console::refusal(refusal);
+            refusal(r);
         }
     }
 }
 
 // One digit: the number of the refusal, or a dot.
-pub(crate) fn digit(v: Verdict) {
+pub(crate) fn digit(v: Result<(), Refusal>) {
     match v {
-        Verdict::Accepted => write(b"."),
-        Verdict::Refused(refusal) => decimal(refusal.number as u64),
-    }
-}
-
-// The four parsers, by number.
-pub(crate) fn parser(k: usize) -> Parser {
-    match k {
-        0 => Parser::Simple,
-        1 => Parser::Myanmar,
-        2 => Parser::Complex,
-        _ => Parser::Khmer,
+        Ok(()) => write(b"."),
+        Err(r) => decimal(u64::from(r.number)),
     }
 }

@@ -1,4 +1,5 @@
 -- A property file by number, and the reader and the lookup as numbers. Assumes nothing.
+use Rattle.std.specs.Prelude.{Err, Some, Option, None}
 use Prim.Native.Nat.{ℕ, ◌<◌, ◌≤◌}
 use mathlib.Core.Path.{◌≡◌, refl, subst, ap}
 use mathlib.Core.List.{List, [], ◌∷◌}
@@ -6,23 +7,20 @@ use native.Mathlib.Omega.{arith}
 use lib.ListN.{length}
 use borrow.Author.Tests.{lt-ltb, le-ltb}
 use Rattle.records.specs.declared.Refusal.{Refusal}
-use Rattle.records.specs.declared.Verdict.{Verdict}
-use Rattle.records.specs.declared.Verdict.TheVariants.{Refused}
+use Rattle.records.specs.Verdict.{Verdict}
 use Rattle.properties.specs.declared.File.{File}
 use Rattle.properties.specs.declared.Filled.{Filled}
 use Rattle.properties.specs.Ranges.{Ranges, lookup_verdict, filled}
 use Rattle.properties.specs.Reading.{read_verdict, read_into, read_ranges, HasRead}
-use Rattle.exports.specs.declared.Which.{Which}
-use Rattle.exports.specs.declared.Which.TheVariants.{Listed, Outside}
 use Rattle.exports.specs.Requests.{which_by, unlisted}
 use Rattle.exports.specs.Results.{Told}
 use Rattle.exports.specs.Properties.{ranges_for, read_numbers, ReadFor, LookupFor}
 use Rattle.exports.proofs.Refusals.{told_tight}
 
 -- with a refusal the ranges are those that were lent, whatever is asked
-pub refused_ranges : (q : Which) (r : Refusal) (s : Ranges) (bytes : List ℕ) → ranges_for q (Refused r) s bytes ≡ s
-refused_ranges (Listed file) r s bytes = refl
-refused_ranges Outside r s bytes = refl
+pub refused_ranges : (q : Option File) (r : Refusal) (s : Ranges) (bytes : List ℕ) → ranges_for q (Err r) s bytes ≡ s
+refused_ranges (Some file) r s bytes = refl
+refused_ranges None r s bytes = refl
 
 -- the reader
 module _ (n : ℕ) (bytes : List ℕ) (s : Ranges) (results : List ℕ) where
@@ -31,13 +29,13 @@ module _ (n : ℕ) (bytes : List ℕ) (s : Ranges) (results : List ℕ) where
       rw (lt-ltb (length results) 4 h, refused_ranges (which_by n) _ s bytes)
       (record { told = told_tight (s.held ∷ []) results (omega arith); first = refl; last = refl; code = refl })
 
-  module _ (q : Which) (e : q ≡ which_by n) (a : Filled) (r : ℕ) (results' : List ℕ) (h : 4 ≤ length results) (told : Told a.verdict (read_numbers a.held) results r results') where
-    pub read_outside : (u : Refusal) → q ≡ Outside → u ≡ unlisted → a ≡ record { verdict = Refused u; held = s.held } → ReadFor n bytes s results r s.firsts s.lasts s.codes results'
+  module _ (q : Option File) (e : q ≡ which_by n) (a : Filled) (r : ℕ) (results' : List ℕ) (h : 4 ≤ length results) (told : Told a.verdict (read_numbers a.held) results r results') where
+    pub read_outside : (u : Refusal) → q ≡ None → u ≡ unlisted → a ≡ record { verdict = Err u; held = s.held } → ReadFor n bytes s results r s.firsts s.lasts s.codes results'
     read_outside u k eu ea =
         rw (le-ltb (length results) 4 h, ← e, k, ← eu)
         (record { told = subst (λ (b : Filled). Told b.verdict (read_numbers b.held) results r results') ea told; first = refl; last = refl; code = refl })
 
-    pub read_listed : (file : File) (firsts' lasts' codes' : List ℕ) → q ≡ Listed file → HasRead file s bytes a firsts' lasts' codes' → ReadFor n bytes s results r firsts' lasts' codes' results'
+    pub read_listed : (file : File) (firsts' lasts' codes' : List ℕ) → q ≡ Some file → HasRead file s bytes a firsts' lasts' codes' → ReadFor n bytes s results r firsts' lasts' codes' results'
     unfolding read_ranges
     read_listed file firsts' lasts' codes' k w =
         let judged : Told (read_verdict file s bytes) (read_numbers a.held) results r results' =

@@ -1,32 +1,15 @@
 -- A step over a state of any numbers: its verdict and its results. Assumes nothing.
 use Prim.Native.Nat.{ℕ, ◌+◌, ◌<◌, ◌≤◌}
-use mathlib.Core.Path.{◌≡◌, refl, subst}
-use mathlib.Core.Bool.{Bool, true, false}
+use mathlib.Core.Path.{◌≡◌, subst}
+use mathlib.Core.Bool.{Bool}
 use mathlib.Core.List.{List, ◌∷◌}
 use native.Mathlib.Omega.{arith}
 use lib.ListN.{length}
 use borrow.Author.Tests.{lt-ltb, le-ltb}
-use Rattle.records.specs.Refusals.{refusal}
-use Rattle.records.specs.declared.Side.TheVariants.{Neither}
-use Rattle.records.specs.declared.Refusal.{Refusal}
-use Rattle.records.specs.declared.Verdict.{Verdict}
-use Rattle.records.specs.declared.Verdict.TheVariants.{Accepted, Refused}
+use Rattle.records.specs.Verdict.{Verdict}
 use Rattle.exports.specs.Results.{written}
 use Rattle.exports.specs.States.{judged, numbers_under, Stepped, SteppedIn}
 use Rattle.exports.proofs.Refusals.{Numbered, told_by, told_tight}
-
-module _ (v : Verdict) (bad : Bool) where
-  pub judged_refused : (r : Refusal) → v ≡ Refused r → v ≡ judged v bad
-  unfolding judged
-  judged_refused r h = rw h refl
-
-  pub judged_bad : v ≡ Accepted → bad ≡ true → Refused (refusal 8 Neither 0) ≡ judged v bad
-  unfolding judged
-  judged_bad h k = rw (h, k) refl
-
-  pub judged_good : v ≡ Accepted → bad ≡ false → Accepted ≡ judged v bad
-  unfolding judged
-  judged_good h k = rw (h, k) refl
 
 -- what is bad, in the code's words and in the definition's
 pub judged_by : (r v : Verdict) (b bad : Bool) → r ≡ judged v b → b ≡ bad → r ≡ judged v bad

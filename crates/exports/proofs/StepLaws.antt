@@ -1,4 +1,5 @@
 -- What a stepping call hands over: its room, its cluster's characters in the lent columns, its results. Assumes nothing.
+use Rattle.std.specs.Prelude.{Ok, Err, Some, None, Option}
 use Prim.Native.Nat.{ℕ, ◌+◌, ◌<◌, ◌≤◌}
 use mathlib.Core.Path.{◌≡◌, refl, sym, ◌∙◌, ap, subst}
 use mathlib.Core.Bool.{Bool, true, false}
@@ -15,8 +16,7 @@ use Rattle.records.specs.Refusals.{refusal, refuse, ◌⊳◌}
 use Rattle.records.specs.declared.Parser.{Parser}
 use Rattle.records.specs.declared.Side.TheVariants.{Neither}
 use Rattle.records.specs.declared.Refusal.{Refusal}
-use Rattle.records.specs.declared.Verdict.{Verdict}
-use Rattle.records.specs.declared.Verdict.TheVariants.{Accepted, Refused}
+use Rattle.records.specs.Verdict.{Verdict}
 use Rattle.parse.specs.declared.Pushed.{Pushed}
 use Rattle.parse.specs.declared.Cluster.{Cluster}
 use Rattle.parse.specs.State.{nothing, empty_cluster}
@@ -29,37 +29,18 @@ use Rattle.segment.proofs.CallTurns.{call_length}
 use Rattle.segment.proofs.Coverage.{tokens, call_of, next_case, accepted_short}
 use Rattle.segment.proofs.Demands.{step_most}
 use Rattle.exports.specs.declared.Request.{Request}
-use Rattle.exports.specs.declared.Request.TheVariants.{Known, Unknown}
-use Rattle.exports.specs.Requests.{request_of, unlisted}
+use Rattle.exports.specs.Requests.{known, request_of, unlisted}
 use Rattle.exports.specs.Results.{written, tight, Told}
 use Rattle.exports.specs.Steps.{refused_at, handed_under, taken, step_for, step_of, step_numbers, laid, Stepped, shortest_of, SteppedFor}
 use Rattle.exports.specs.Inner.{Fits}
 use Rattle.exports.proofs.Refusals.{Numbered, told_by, told_tight}
 
--- the columns have room for a cluster, or not
-module _ (place cells : ℕ) (a r : Answer) where
-  pub room_none : cells < 32 → r ≡ refused_at place (refusal 9 Neither 0) → r ≡ handed_under (tight cells 32) place a
-  room_none h e = rw (lt-ltb cells 32 h) e
-
-  pub room_all : 32 ≤ cells → r ≡ a → r ≡ handed_under (tight cells 32) place a
-  room_all h e = rw (le-ltb cells 32 h) e
-
--- the call's own verdict v comes first
-module _ (place cells : ℕ) (a r : Answer) (v : Verdict) (e : v ≡ refusal_in a.what) where
-  pub taken_refused : (q : Refusal) → v ≡ Refused q → r ≡ refused_at place q → r ≡ taken place cells a
-  unfolding taken
-  taken_refused q h k = rw (← e, h) k
-
-  pub taken_passed : v ≡ Accepted → r ≡ handed_under (tight cells 32) place a → r ≡ taken place cells a
-  unfolding taken
-  taken_passed h k = rw (← e, h) k
-
 -- the call of the parser and mode that are wanted
-module _ (n m place cells : ℕ) (t : Text) (q : Request) (e : q ≡ request_of n m) (r : Answer) where
-  pub step_unknown : (u : Refusal) → q ≡ Unknown → u ≡ unlisted → r ≡ refused_at place u → r ≡ step_for (request_of n m) place t cells
+module _ (n m place cells : ℕ) (t : Text) (q : Option Request) (e : q ≡ request_of n m) (r : Answer) where
+  pub step_unknown : (u : Refusal) → q ≡ None → u ≡ unlisted → r ≡ refused_at place u → r ≡ step_for (request_of n m) place t cells
   step_unknown u h eu k = rw (← e, h, ← eu) k
 
-  pub step_known : (parser : Parser) (mode : Mode) (a : Answer) → q ≡ Known parser mode → a ≡ next_of (record { parser = parser; mode = mode; place = record { at = place } }) t → r ≡ taken place cells a → r ≡ step_for (request_of n m) place t cells
+  pub step_known : (parser : Parser) (mode : Mode) (a : Answer) → q ≡ known parser mode → a ≡ next_of (record { parser = parser; mode = mode; place = record { at = place } }) t → r ≡ taken place cells a → r ≡ step_for (request_of n m) place t cells
   step_known parser mode a h ea k = rw (← e, h) (k ∙ ap (taken place cells) ea)
 
 -- # Room
@@ -93,14 +74,14 @@ taken_within place cells a z = under (refusal_in a.what)
     room false h = (z, omega (arith, z.0, ltb-false cells 32 h))
 
     under : (v : Verdict) → Within cells (handed_under (v ⊳ tight cells 32) place a)
-    under Accepted = room (ltb cells 32) refl
-    under (Refused r) = refused_within place cells r
+    under (Ok _) = room (ltb cells 32) refl
+    under (Err r) = refused_within place cells r
 
-step_within : (q : Request) (place cells : ℕ) (t : Text) → Within cells (step_for q place t cells)
-step_within (Known parser mode) place cells t =
-    let s : Segmenter = record { parser = parser; mode = mode; place = record { at = place } } in
+step_within : (q : Option Request) (place cells : ℕ) (t : Text) → Within cells (step_for q place t cells)
+step_within (Some q) place cells t =
+    let s : Segmenter = record { parser = q.parser; mode = q.mode; place = record { at = place } } in
     taken_within place cells (next_of s t) (answer_sized s t)
-step_within Unknown place cells t = refused_within place cells unlisted
+step_within None place cells t = refused_within place cells unlisted
 
 pub step_fits : (n m place cells : ℕ) (t : Text) (a : Answer) (scalars classes records noted : List ℕ) → cells ≡ shortest_of scalars classes records noted → a ≡ step_for (request_of n m) place t cells → Fits a.cluster scalars classes records noted
 step_fits n m place cells t a scalars classes records noted ec ea =

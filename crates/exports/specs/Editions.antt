@@ -2,7 +2,7 @@
 use Rattle.std.specs.Prelude.{ℕ, Bool, ◌||◌, List, [], ◌∷◌, eqb, ltb, length}
 use Rattle.records.specs.Refusals.{◌⊳◌}
 use Rattle.records.specs.Written.{written_under}
-use Rattle.records.specs.declared.Verdict.{Verdict}
+use Rattle.records.specs.Verdict.{Verdict}
 use Rattle.uax29.specs.declared.editions.EditionState.{EditionState}
 use Rattle.uax29.specs.declared.editions.EditionStep.{EditionStep}
 use Rattle.uax29.specs.EditionStep.{step_in}

@@ -1,7 +1,7 @@
 -- What the calls over clusters as UAX #29 has them tell, and what stands in the lent columns afterwards.
 use Rattle.std.specs.Prelude.{ℕ, Bool, ◌||◌, List, [], ◌∷◌, eqb, ltb, length}
 use Rattle.records.specs.Refusals.{◌⊳◌}
-use Rattle.records.specs.declared.Verdict.{Verdict}
+use Rattle.records.specs.Verdict.{Verdict}
 use Rattle.uax29.specs.declared.graphemes.GraphemeState.{GraphemeState}
 use Rattle.uax29.specs.declared.graphemes.GraphemeStep.{GraphemeStep}
 use Rattle.uax29.specs.GraphemeStep.{step_of}

@@ -1,24 +1,21 @@
 -- What the calls over lines tell, and what stands in the lent columns afterwards.
-use Rattle.std.specs.Prelude.{ℕ, ◌-◌, Bool, cond, ◌||◌, List, [], ◌∷◌, ltb, length}
+use Rattle.std.specs.Prelude.{ℕ, ◌-◌, Bool, cond, ◌||◌, List, [], ◌∷◌, ltb, length, Err, Some, None, Option}
 use Rattle.records.specs.Text.{cell}
 use Rattle.records.specs.Refusals.{◌⊳◌}
-use Rattle.records.specs.declared.Verdict.{Verdict}
-use Rattle.records.specs.declared.Verdict.TheVariants.{Refused}
+use Rattle.records.specs.Verdict.{Verdict}
 use Rattle.words.specs.Run.{next_at}
-use Rattle.words.specs.declared.Next.{Next}
+use Rattle.words.specs.Next.{Next}
 use Rattle.lines.specs.Rules.{boundary_code}
 use Rattle.lines.specs.Refusals.{step_of}
 use Rattle.lines.specs.NextStep.{next_of}
 use Rattle.lines.specs.Run.{run_verdict, cells_under}
 use Rattle.lines.specs.declared.Boundary.TheVariants as Boundary
-use Rattle.lines.specs.declared.Previous.{Previous}
-use Rattle.lines.specs.declared.Previous.TheVariants.{Class, Nothing}
+use Rattle.lines.specs.Previous.{Previous}
 use Rattle.lines.specs.declared.LineState.{LineState}
 use Rattle.lines.specs.declared.LineStep.{LineStep}
 use Rattle.lines.specs.declared.BoundaryState.{BoundaryState}
 use Rattle.lines.specs.declared.BoundaryStep.{BoundaryStep}
-use Rattle.exports.specs.declared.Asked.{Asked}
-use Rattle.exports.specs.declared.Asked.TheVariants.{Listed, Outside}
+use Rattle.lines.specs.declared.Strength.{Strength}
 use Rattle.exports.specs.declared.Given.{Given}
 use Rattle.exports.specs.Requests.{asked_by, unlisted}
 use Rattle.exports.specs.Results.{check_room, line_room, next_room, tight, mark_code, Answered}
@@ -27,13 +24,13 @@ use Rattle.exports.specs.Words.{state_of, bad_marks}
 
 -- # The run
 
-abbrev pub run_for : Asked → List ℕ → List ℕ → List ℕ → List ℕ → ℕ → Verdict
-run_for (Listed strength) table lines words pictographs cells = run_verdict table lines words pictographs cells
-run_for Outside table lines words pictographs cells = Refused unlisted
+abbrev pub run_for : Option Strength → List ℕ → List ℕ → List ℕ → List ℕ → ℕ → Verdict
+run_for (Some strength) table lines words pictographs cells = run_verdict table lines words pictographs cells
+run_for None table lines words pictographs cells = Err unlisted
 
-abbrev pub cells_for : Asked → Verdict → List ℕ → List ℕ → List ℕ → List ℕ → List ℕ → List ℕ
-cells_for (Listed strength) v table lines words pictographs out = cells_under v strength table lines words pictographs out
-cells_for Outside v table lines words pictographs out = out
+abbrev pub cells_for : Option Strength → Verdict → List ℕ → List ℕ → List ℕ → List ℕ → List ℕ → List ℕ
+cells_for (Some strength) v table lines words pictographs out = cells_under v strength table lines words pictographs out
+cells_for None v table lines words pictographs out = out
 
 abbrev pub LinesRan : ℕ → List ℕ → List ℕ → List ℕ → List ℕ → List ℕ → List ℕ → ℕ → List ℕ → List ℕ → Type 0
 LinesRan strength table lines words pictographs out results =
@@ -44,7 +41,7 @@ LinesRan strength table lines words pictographs out results =
 
 -- the class before is the last cell of the line classes before, and none where that is empty
 unfoldable pub previous_of : List ℕ → Previous
-previous_of before = cond (ltb 0 (length before)) (Class (cell before (length before - 1))) Nothing
+previous_of before = cond (ltb 0 (length before)) (Some (cell before (length before - 1))) None
 
 abbrev pub line_state_of : ℕ → List ℕ → LineState
 line_state_of row before = record { row = narrow row; previous = previous_of before }
@@ -53,9 +50,9 @@ line_state_of row before = record { row = narrow row; previous = previous_of bef
 abbrev pub bad_row : ℕ → Bool
 bad_row row = ltb 255 row
 
-abbrev pub line_for : Asked → List ℕ → LineState → ℕ → LineStep
-line_for (Listed strength) table s class = step_of strength table s class
-line_for Outside table s class = record { state = s; answer = Boundary.None; verdict = Refused unlisted }
+abbrev pub line_for : Option Strength → List ℕ → LineState → ℕ → LineStep
+line_for (Some strength) table s class = step_of strength table s class
+line_for None table s class = record { state = s; answer = Boundary.None; verdict = Err unlisted }
 
 abbrev pub line_from : ℕ → List ℕ → ℕ → List ℕ → ℕ → LineStep
 line_from strength table row before class = line_for (asked_by strength) table (line_state_of row before) (narrow class)
@@ -76,9 +73,9 @@ LineStepFor strength table row before class =
 
 -- # The step of `next`
 
-abbrev pub next_for : Asked → List ℕ → BoundaryState → ℕ → ℕ → ℕ → Next → BoundaryStep
-next_for (Listed strength) table s line word pictograph next = next_of strength table s line word pictograph next
-next_for Outside table s line word pictograph next = record { state = s; answer = Boundary.None; verdict = Refused unlisted }
+abbrev pub next_for : Option Strength → List ℕ → BoundaryState → ℕ → ℕ → ℕ → Next → BoundaryStep
+next_for (Some strength) table s line word pictograph next = next_of strength table s line word pictograph next
+next_for None table s line word pictograph next = record { state = s; answer = Boundary.None; verdict = Err unlisted }
 
 abbrev pub next_from : ℕ → List ℕ → ℕ → List ℕ → Given → ℕ → ℕ → ℕ → List ℕ → BoundaryStep
 next_from strength table row before g line word pictograph rest =

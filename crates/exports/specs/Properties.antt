@@ -1,25 +1,23 @@
 -- What the calls over property files tell, and what stands in the lent columns afterwards.
-use Rattle.std.specs.Prelude.{ℕ, ◌≡◌, List, [], ◌∷◌, length}
+use Rattle.std.specs.Prelude.{ℕ, ◌≡◌, List, [], ◌∷◌, length, Err, Some, Option, None}
 use Rattle.records.specs.Refusals.{◌⊳◌}
-use Rattle.records.specs.declared.Verdict.{Verdict}
-use Rattle.records.specs.declared.Verdict.TheVariants.{Refused}
+use Rattle.records.specs.Verdict.{Verdict}
 use Rattle.properties.specs.Ranges.{Ranges, lookup_verdict, filled}
 use Rattle.properties.specs.Reading.{read_verdict, read_into}
-use Rattle.exports.specs.declared.Which.{Which}
-use Rattle.exports.specs.declared.Which.TheVariants.{Listed, Outside}
+use Rattle.properties.specs.declared.File.{File}
 use Rattle.exports.specs.Requests.{which_by, unlisted}
 use Rattle.exports.specs.Results.{check_room, read_room, tight, Told}
 
 -- # The reader
 
-abbrev pub read_for : Which → Ranges → List ℕ → Verdict
-read_for (Listed file) r bytes = read_verdict file r bytes
-read_for Outside r bytes = Refused unlisted
+abbrev pub read_for : Option File → Ranges → List ℕ → Verdict
+read_for (Some file) r bytes = read_verdict file r bytes
+read_for None r bytes = Err unlisted
 
 -- the ranges afterwards: with a refusal those that were lent
-abbrev pub ranges_for : Which → Verdict → Ranges → List ℕ → Ranges
-ranges_for (Listed file) v r bytes = read_into v file r bytes
-ranges_for Outside v r bytes = r
+abbrev pub ranges_for : Option File → Verdict → Ranges → List ℕ → Ranges
+ranges_for (Some file) v r bytes = read_into v file r bytes
+ranges_for None v r bytes = r
 
 -- the results after the first three: held
 abbrev pub read_numbers : ℕ → List ℕ

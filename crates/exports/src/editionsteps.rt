@@ -6,7 +6,6 @@ ghost use Rattle.exports.specs.Editions.{kept_in_of, bad_kept_in, edition_from, 
 use crate::KeptIn;
 use crate::results::{mark, numbered, put};
 use crate::states::{code, judge};
-use records::Verdict;
 use uax29::conjoined::Link;
 use uax29::editions::{EditionState, EditionStep};
 
@@ -14,9 +13,8 @@ impl KeptIn {
     pub(crate) fn state(self) -> EditionState
         ensures { result ≡ kept_in_of self }
     {
-        let kept = self.kept;
         EditionState {
-            graphemes: kept.state(),
+            graphemes: self.kept.state(),
             link: Link {
                 begun: self.begun == 1,
                 linked: self.linked == 1,
@@ -27,22 +25,15 @@ impl KeptIn {
     pub(crate) fn step(self, edition: u64, class: u64, emoji: u64, conjunct: u64) -> EditionStep
         ensures { result ≡ edition_from edition self class emoji conjunct }
     {
-        let state = self.state();
-        state.step(edition, code(class), code(emoji), code(conjunct))
+        self.state()
+            .step(edition, code(class), code(emoji), code(conjunct))
     }
 
     // A mark that is neither 0 nor 1.
     pub(crate) fn is_bad(self) -> bool
         ensures { result ≡ bad_kept_in self }
     {
-        let kept = self.kept;
-        if kept.is_bad() {
-            return true;
-        }
-        if 1 < self.begun {
-            return true;
-        }
-        1 < self.linked
+        self.kept.is_bad() || 1 < self.begun || 1 < self.linked
     }
 }
 
@@ -52,7 +43,7 @@ pub(crate) fn tell_edition(k: KeptIn, s: EditionStep, results: &mut [u64]) -> u6
     let own = s.verdict;
     let verdict = judge(own, k.is_bad());
     let n = numbered(verdict);
-    let Verdict::Accepted = verdict else {
+    let Ok(()) = verdict else {
         let kept = k.kept;
         put(
             &[

@@ -6,7 +6,6 @@ ghost use Rattle.exports.specs.Graphemes.{kept_of, bad_kept, grapheme_from, grap
 use crate::Kept;
 use crate::results::{mark, numbered, put};
 use crate::states::{code, judge};
-use records::Verdict;
 use uax29::graphemes::{GraphemeState, GraphemeStep};
 
 impl Kept {
@@ -24,21 +23,14 @@ impl Kept {
     pub(crate) fn step(self, class: u64, emoji: u64) -> GraphemeStep
         ensures { result ≡ grapheme_from self class emoji }
     {
-        let state = self.state();
-        state.step(code(class), code(emoji))
+        self.state().step(code(class), code(emoji))
     }
 
     // A mark that is neither 0 nor 1.
     pub(crate) fn is_bad(self) -> bool
         ensures { result ≡ bad_kept self }
     {
-        if 1 < self.odd {
-            return true;
-        }
-        if 1 < self.extended {
-            return true;
-        }
-        1 < self.joined
+        1 < self.odd || 1 < self.extended || 1 < self.joined
     }
 }
 
@@ -48,7 +40,7 @@ pub(crate) fn tell_grapheme(k: Kept, s: GraphemeStep, results: &mut [u64]) -> u6
     let own = s.verdict;
     let verdict = judge(own, k.is_bad());
     let n = numbered(verdict);
-    let Verdict::Accepted = verdict else {
+    let Ok(()) = verdict else {
         put(
             &[
                 n.number, n.side, n.index, k.previous, k.odd, k.extended, k.joined, 0,

@@ -5,23 +5,19 @@ ghost use Rattle.exports.specs.States.{Stepped};
 ghost use Rattle.exports.specs.Words.{bad_marks};
 ghost use Rattle.exports.specs.Lines.{previous_of, line_state_of, bad_row, line_for, line_from, line_judged, line_after, line_given, next_for, next_from, next_judged, next_after, next_given};
 
+use crate::Given;
 use crate::requests::{asked_by, unlisted};
 use crate::results::{mark, numbered, put};
 use crate::states::{code, judge};
 use crate::wordsteps::next_in;
-use crate::{Asked, Given};
-use lines::{Boundary, BoundaryState, BoundaryStep, LineState, LineStep, Previous};
-use records::Verdict;
-use words::Next;
+use lines::{Boundary, BoundaryState, BoundaryStep, LineState, LineStep};
 
 // The class of the record before: the last of those that came, or none.
-fn previous_in(before: &[u8]) -> Previous
+#[tactic(auto, unfolding(crate::specs::Lines::previous_of))]
+fn previous_in(before: &[u8]) -> Option<u8>
     ensures { result ≡ previous_of before.now }
 {
-    if 0 < before.len() {
-        return Previous::Class(before[before.len() - 1]);
-    }
-    Previous::Nothing
+    before.last().copied()
 }
 
 fn line_state(row: u64, before: &[u8]) -> LineState
@@ -36,12 +32,11 @@ fn line_state(row: u64, before: &[u8]) -> LineState
 fn line_for(strength: u64, table: &[u8], state: LineState, class: u8) -> LineStep
     ensures { result ≡ line_for (asked_by strength) table.now state class }
 {
-    let asked = asked_by(strength);
-    let Asked::Listed(held) = asked else {
+    let Some(held) = asked_by(strength) else {
         return LineStep {
             state,
             answer: Boundary::None,
-            verdict: Verdict::Refused(unlisted()),
+            verdict: Err(unlisted()),
         };
     };
     state.step(table, held, class)
@@ -65,7 +60,7 @@ pub(crate) fn tell_line(row: u64, s: LineStep, results: &mut [u64]) -> u64
     let own = s.verdict;
     let verdict = judge(own, 255 < row);
     let n = numbered(verdict);
-    let Verdict::Accepted = verdict else {
+    let Ok(()) = verdict else {
         put(&[n.number, n.side, n.index, row, 0], results);
         return n.number;
     };
@@ -77,7 +72,7 @@ pub(crate) fn tell_line(row: u64, s: LineStep, results: &mut [u64]) -> u64
             n.side,
             n.index,
             state.row as u64,
-            answer.code() as u64,
+            u8::from(answer) as u64,
         ],
         results,
     );
@@ -91,16 +86,15 @@ fn next_for(
     line: u8,
     word: u8,
     pictograph: u8,
-    next: Next,
+    next: Option<u8>,
 ) -> BoundaryStep
     ensures { result ≡ next_for (asked_by strength) table.now state line word pictograph next }
 {
-    let asked = asked_by(strength);
-    let Asked::Listed(held) = asked else {
+    let Some(held) = asked_by(strength) else {
         return BoundaryStep {
             state,
             answer: Boundary::None,
-            verdict: Verdict::Refused(unlisted()),
+            verdict: Err(unlisted()),
         };
     };
     state.next(table, held, line, word, pictograph, next)
@@ -139,10 +133,7 @@ impl Given {
 fn is_bad_next(row: u64, g: Given) -> bool
     ensures { result ≡ bad_row row || bad_marks g }
 {
-    if 255 < row {
-        return true;
-    }
-    g.is_bad()
+    255 < row || g.is_bad()
 }
 
 pub(crate) fn tell_next(row: u64, g: Given, s: BoundaryStep, results: &mut [u64]) -> u64
@@ -151,7 +142,7 @@ pub(crate) fn tell_next(row: u64, g: Given, s: BoundaryStep, results: &mut [u64]
     let own = s.verdict;
     let verdict = judge(own, is_bad_next(row, g));
     let n = numbered(verdict);
-    let Verdict::Accepted = verdict else {
+    let Ok(()) = verdict else {
         put(
             &[
                 n.number, n.side, n.index, row, g.first, g.previous, g.prevent, g.count, 0,
@@ -174,7 +165,7 @@ pub(crate) fn tell_next(row: u64, g: Given, s: BoundaryStep, results: &mut [u64]
             word.previous as u64,
             mark(word.prevent),
             word.count as u64,
-            answer.code() as u64,
+            u8::from(answer) as u64,
         ],
         results,
     );

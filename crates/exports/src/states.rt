@@ -2,7 +2,7 @@
 ghost use Rattle.std.specs.Prelude.{◌≡◌};
 ghost use Rattle.exports.specs.States.{narrow, judged};
 
-use records::{Refusal, Side, Verdict};
+use records::{Refusal, Side};
 
 // A number as a code: no list has 255 codes, so that a larger number is outside too.
 pub(crate) fn code(x: u64) -> u8
@@ -12,18 +12,17 @@ pub(crate) fn code(x: u64) -> u8
 }
 
 // The step's own refusals, then that of a number which stands for nothing that a state keeps.
-pub(crate) fn judge(v: Verdict, bad: bool) -> Verdict
+#[tactic(auto, unfolding(crate::specs::States::judged))]
+pub(crate) fn judge(v: Result<(), Refusal>, bad: bool) -> Result<(), Refusal>
     ensures { result ≡ judged v bad }
 {
-    let Verdict::Accepted = v else {
-        return v;
-    };
+    v?;
     if bad {
-        return Verdict::Refused(Refusal {
+        return Err(Refusal {
             number: 8,
             side: Side::Neither,
             index: 0,
         });
     }
-    Verdict::Accepted
+    Ok(())
 }

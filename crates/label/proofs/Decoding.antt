@@ -1,67 +1,16 @@
--- What the decoder answers, as the code takes the bytes apart, and that a character that was read lies inside the bytes. Assumes
--- nothing.
-use Prim.Native.Nat.{ℕ, ◌+◌, ◌-◌, ◌*◌, ◌/◌, ◌%◌, ◌≤◌, ◌<◌}
+-- A character that was read lies inside the bytes. Assumes nothing.
+use Prim.Native.Nat.{ℕ, ◌+◌, ◌-◌, ◌/◌, ◌≤◌, ◌<◌}
 use mathlib.Core.Path.{◌≡◌, sym, subst, ◌∙◌}
-use mathlib.Core.Bool.{Bool, true, false}
+use mathlib.Core.Bool.{true}
 use mathlib.Core.List.{List}
+use Rattle.std.specs.Prelude.{Some, None}
 use native.Mathlib.Omega.{arith}
 use lib.Dec.{ltb}
 use lib.ListN.{length, get_or, take, drop, length-drop, get_or-eq_default}
 use lib.Seq.{take_all}
 use borrow.Author.Tests.{ltb-true, ltb-false, eqb-true}
 use Rattle.basics.proofs.Tests.{if_intro, by_test}
-use Rattle.label.specs.declared.utf8.Decoded.{Decoded}
-use Rattle.label.specs.declared.utf8.Decoded.TheVariants.{Scalar, Bad}
-use Rattle.label.specs.Utf8.{tail, six, two, three, three_of, four, four_of, decode_from, decode_of}
-
--- t, u and w are what the code says of the bytes that go on with the character, a, b and d their six bits
-module _ (s : List ℕ) (lead : ℕ) (t : Bool) (et : t ≡ tail s 1) where
-  pub two_bad : t ≡ false → Bad ≡ two s lead
-  unfolding two
-  two_bad h = rw (← et, h)
-
-  pub three_bad : t ≡ false → Bad ≡ three s lead
-  unfolding three
-  three_bad h = rw (← et, h)
-
-  pub four_bad : t ≡ false → Bad ≡ four s lead
-  unfolding four
-  four_bad h = rw (← et, h)
-
-  module _ (ht : t ≡ true) where
-    pub two_scalar : (a : ℕ) → a ≡ six s 1 → Scalar (lead % 32 * 64 + a) 2 ≡ two s lead
-    unfolding two
-    two_scalar a ea = rw (← et, ht, ← ea)
-
-    module _ (u : Bool) (eu : u ≡ tail s 2) where
-      pub three_bad_2 : u ≡ false → Bad ≡ three s lead
-      unfolding three
-      three_bad_2 h = rw (← et, ht, ← eu, h)
-
-      pub four_bad_2 : u ≡ false → Bad ≡ four s lead
-      unfolding four
-      four_bad_2 h = rw (← et, ht, ← eu, h)
-
-      module _ (hu : u ≡ true) (r : Decoded) (a b : ℕ) (ea : a ≡ six s 1) (eb : b ≡ six s 2) where
-        pub three_scalar : r ≡ three_of (lead % 16 * 4096 + a * 64 + b) → r ≡ three s lead
-        unfolding three
-        three_scalar e = rw (← et, ht, ← eu, hu, ← ea, ← eb) e
-
-      module _ (hu : u ≡ true) (w : Bool) (ew : w ≡ tail s 3) where
-        pub four_bad_3 : w ≡ false → Bad ≡ four s lead
-        unfolding four
-        four_bad_3 h = rw (← et, ht, ← eu, hu, ← ew, h)
-
-        pub four_scalar : w ≡ true → (r : Decoded) (a b d : ℕ) → a ≡ six s 1 → b ≡ six s 2 → d ≡ six s 3
-            → r ≡ four_of (lead % 8 * 262144 + a * 4096 + b * 64 + d) → r ≡ four s lead
-        unfolding four
-        four_scalar hw r a b d ea eb ed e = rw (← et, ht, ← eu, hu, ← ew, hw, ← ea, ← eb, ← ed) e
-
-pub ruleset decodings = (two_bad, three_bad, four_bad, two_scalar, three_bad_2, four_bad_2, three_scalar, four_bad_3, four_scalar)
-
-pub from_lead : (s : List ℕ) (lead : ℕ) (r : Decoded) → lead ≡ get_or s 0 0 → r ≡ decode_from s lead → r ≡ decode_of s
-unfolding decode_of
-from_lead s lead r e f = rw (← e) f
+use Rattle.label.specs.Utf8.{Decoded, tail, two, three, three_of, four, four_of, decode_from, decode_of}
 
 -- a byte that goes on with a character is one of the bytes
 tail_inside : (s : List ℕ) (i : ℕ) → tail s i ≡ true → i < length s
@@ -74,8 +23,8 @@ tail_inside s i h =
 
 -- a character takes at least one byte, and no more than there are
 abbrev pub Inside : ℕ → Decoded → Type 0
-Inside k (Scalar x n) = (0 < n) × (n ≤ k)
-Inside k Bad = Unit {0}
+Inside k (Some (x, n)) = (0 < n) × (n ≤ k)
+Inside k None = Unit {0}
 
 three_of_inside : (k x : ℕ) → 2 < k → Inside k (three_of x)
 unfolding three_of
@@ -128,11 +77,11 @@ module _ (s : List ℕ) (lead : ℕ) where
       (λ _. if_intro (Inside (length s)) (ltb lead 0xF8) _ _ (λ _. four_inside) (λ _. tt)))))
 
 -- so the next character begins further on, and not past the end; r is what the decoder said of the bytes from `at` on
-pub read_inside : (bytes : List ℕ) (at x n : ℕ) (r : Decoded) → at < length bytes → r ≡ decode_of (take (length bytes - at) (drop at bytes)) → r ≡ Scalar x n
+pub read_inside : (bytes : List ℕ) (at x n : ℕ) (r : Decoded) → at < length bytes → r ≡ decode_of (take (length bytes - at) (drop at bytes)) → r ≡ Some (x, n)
     → (at < at + n) × (at + n ≤ length bytes)
 unfolding decode_of
 read_inside bytes at x n r h e f =
     let l : length (drop at bytes) ≡ length bytes - at = length-drop at bytes in
     let k : take (length bytes - at) (drop at bytes) ≡ drop at bytes = take_all (length bytes - at) (drop at bytes) (omega arith) in
-    let i : Inside (length (drop at bytes)) (Scalar x n) = subst (Inside (length (drop at bytes))) (sym (rw k at e) ∙ f) (from_inside (drop at bytes) _ (omega arith)) in
+    let i : Inside (length (drop at bytes)) (Some (x, n)) = subst (Inside (length (drop at bytes))) (sym (rw k at e) ∙ f) (from_inside (drop at bytes) _ (omega arith)) in
     (omega arith, omega arith)

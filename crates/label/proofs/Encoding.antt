@@ -1,5 +1,6 @@
 -- The decoder reads what UTF-8 writes: of every scalar value's bytes, whatever follows them, it answers that scalar and their number.
 -- Assumes nothing.
+use Rattle.std.specs.Prelude.{Some}
 use Prim.Native.Nat.{ℕ, ◌+◌, ◌*◌, ◌/◌, ◌%◌, ◌≤◌, ◌<◌}
 use mathlib.Core.Path.{◌≡◌}
 use mathlib.Core.Bool.{true, false}
@@ -10,7 +11,6 @@ use lib.Dec.{eqb, ltb}
 use lib.ListN.{length}
 use borrow.Author.Tests.{lt-ltb, le-ltb, eq-eqb, ltb-true, ltb-false}
 use Rattle.basics.proofs.Tests.{by_test}
-use Rattle.label.specs.declared.utf8.Decoded.TheVariants.{Scalar}
 use Rattle.spans.specs.Utf8.{encode_of}
 use Rattle.label.specs.Utf8.{tail, six, two, three, three_of, four, four_of, decode_from, decode_of}
 
@@ -31,11 +31,11 @@ parts x =
     joined x (x / 64) (x / 4096) (x / 262144) (x % 64) (x / 64 % 64) (x / 4096 % 64) (omega arith) (omega arith) (omega arith)
 
 module _ (x : ℕ) (rest : List ℕ) where
-  one : x < 0x80 → decode_of (x ∷ rest) ≡ Scalar x 1
+  one : x < 0x80 → decode_of (x ∷ rest) ≡ Some (x, 1)
   unfolding decode_of decode_from
   one h = rw (lt-ltb x 0x80 h)
 
-  two_bytes : 0x80 ≤ x → x < 0x800 → decode_of ((192 + x / 64) ∷ (128 + x % 64) ∷ rest) ≡ Scalar x 2
+  two_bytes : 0x80 ≤ x → x < 0x800 → decode_of ((192 + x / 64) ∷ (128 + x % 64) ∷ rest) ≡ Some (x, 2)
   unfolding decode_of decode_from two tail six
   two_bytes l h =
       let a : ltb (192 + x / 64) 0x80 ≡ false = le-ltb (192 + x / 64) 0x80 (omega arith) in
@@ -46,7 +46,7 @@ module _ (x : ℕ) (rest : List ℕ) where
       rw (a, b, d, t, v)
 
   three_bytes : 0x800 ≤ x → x < 0x10000 → (x < 0xD800) ⊎ (0xE000 ≤ x)
-      → decode_of ((224 + x / 4096) ∷ (128 + x / 64 % 64) ∷ (128 + x % 64) ∷ rest) ≡ Scalar x 3
+      → decode_of ((224 + x / 4096) ∷ (128 + x / 64 % 64) ∷ (128 + x % 64) ∷ rest) ≡ Some (x, 3)
   unfolding decode_of decode_from three three_of tail six
   three_bytes l h s =
       let a : ltb (224 + x / 4096) 0x80 ≡ false = le-ltb (224 + x / 4096) 0x80 (omega arith) in
@@ -63,7 +63,7 @@ module _ (x : ℕ) (rest : List ℕ) where
       s)
 
   four_bytes : 0x10000 ≤ x → x < 0x110000
-      → decode_of ((240 + x / 262144) ∷ (128 + x / 4096 % 64) ∷ (128 + x / 64 % 64) ∷ (128 + x % 64) ∷ rest) ≡ Scalar x 4
+      → decode_of ((240 + x / 262144) ∷ (128 + x / 4096 % 64) ∷ (128 + x / 64 % 64) ∷ (128 + x % 64) ∷ rest) ≡ Some (x, 4)
   unfolding decode_of decode_from four four_of tail six
   four_bytes l h =
       let a : ltb (240 + x / 262144) 0x80 ≡ false = le-ltb (240 + x / 262144) 0x80 (omega arith) in
@@ -80,7 +80,7 @@ module _ (x : ℕ) (rest : List ℕ) where
       let n : (128 + x % 64) % 64 ≡ x % 64 = kept (x % 64) (omega arith) in
       rw (a, b, d, e, f, t, u, w, o, k, m, n, parts x, le-ltb x 0x10000 l, lt-ltb x 0x110000 h)
 
-  pub decodes : x < 0x110000 → (x < 0xD800) ⊎ (0xE000 ≤ x) → decode_of (encode_of x ++ rest) ≡ Scalar x (length (encode_of x))
+  pub decodes : x < 0x110000 → (x < 0xD800) ⊎ (0xE000 ≤ x) → decode_of (encode_of x ++ rest) ≡ Some (x, length (encode_of x))
   unfolding encode_of
   decodes h s =
       by_test (ltb x 0x80)

@@ -1,4 +1,5 @@
 -- A label of numbers read word by word. Assumes nothing.
+use Rattle.std.specs.Prelude.{Option, Some, None, Ok, Err}
 use Prim.Native.Nat.{ℕ, zero, suc, ◌+◌, ◌-◌, ◌≤◌, ◌<◌, min}
 use mathlib.Core.Path.{◌≡◌, refl, sym, ◌∙◌, ap}
 use mathlib.Core.Bool.{Bool, true, false, cond}
@@ -7,17 +8,13 @@ use native.Mathlib.Omega.{arith}
 use lib.Dec.{eqb, ltb}
 use lib.ListN.{length, get_or, take, drop, set, length-drop, length-set, drop_of_length-le, get_or-eq_default}
 use lib.Seq.{take_all}
-use borrow.Author.Tests.{eq-eqb, ne_eqb}
+use borrow.Author.Tests.{ne_eqb}
 use Rattle.basics.proofs.Tests.{if_same}
-use Rattle.cases.specs.declared.numbers.Number.{Number}
-use Rattle.cases.specs.declared.numbers.Number.TheVariants.{Value, Nothing}
 use Rattle.cases.specs.Numbers.{number_of}
 use Rattle.cases.specs.Spans.{before, up_to, after, next_from}
 use Rattle.cases.proofs.Splits.{next_after_lem}
-use Rattle.label.specs.declared.texts.Taken.{Taken}
-use Rattle.label.specs.declared.texts.Taken.TheVariants.{Scalars, NotNumber}
-use Rattle.label.specs.Numbers.{begins, scalar_in, numbers_from, all_numbers, counted_of, label_scalars, label_of}
-use Rattle.label.specs.Utf8.{scalars_from, read_of}
+use Rattle.label.specs.declared.texts.Unread.TheVariants.{NotNumber}
+use Rattle.label.specs.Numbers.{begins, scalar_in, numbers_from, all_numbers, counted_of}
 use Rattle.label.proofs.Reading.{Read, Written, read_start, read_next, read_end}
 
 -- what is left behind a word
@@ -33,7 +30,7 @@ next_falls xs at next h e =
     omega arith
 
 -- a word as the code reads it
-pub short_word : (word : List ℕ) → length word < 2 → Nothing ≡ scalar_in word
+pub short_word : (word : List ℕ) → length word < 2 → None ≡ scalar_in word
 unfolding scalar_in begins
 short_word word h =
     let z : get_or word 1 0 ≡ 0 = get_or-eq_default word 0 (omega arith) in
@@ -41,25 +38,16 @@ short_word word h =
     let g : cond (eqb (get_or word 0 0) 85) (eqb (get_or word 1 0) 43) false ≡ false = if_same (λ b. b) (eqb (get_or word 0 0) 85) _ _ false f refl in
     rw g
 
-pub other_word : (word : List ℕ) (t : Bool) → t ≡ begins word → t ≡ false → Nothing ≡ scalar_in word
+pub other_word : (word : List ℕ) (t : Bool) → t ≡ begins word → t ≡ false → None ≡ scalar_in word
 unfolding scalar_in
 other_word word t e h = rw (← e, h)
 
-pub number_word : (word : List ℕ) (t : Bool) (r : Number) → 2 ≤ length word → t ≡ begins word → t ≡ true
+pub number_word : (word : List ℕ) (t : Bool) (r : Option ℕ) → 2 ≤ length word → t ≡ begins word → t ≡ true
     → r ≡ number_of 16 4294967295 (take (length word - 2) (drop 2 word)) → r ≡ scalar_in word
 unfolding scalar_in
 number_word word t r l e h k =
     let f : take (length word - 2) (drop 2 word) ≡ drop 2 word = take_all (length word - 2) (drop 2 word) (omega (arith, length-drop 2 word)) in
     rw (← e, h) (rw f at k)
-
--- the first two bytes as the code reads them
-pub begins_second : (word : List ℕ) (a b : ℕ) → a ≡ get_or word 0 0 → a ≡ 85 → b ≡ get_or word 1 0 → eqb b 43 ≡ begins word
-unfolding begins
-begins_second word a b ea h eb = rw (← ea, eq-eqb a 85 h, ← eb)
-
-pub begins_not : (word : List ℕ) (a : ℕ) → a ≡ get_or word 0 0 → (a ≡ 85 → ⊥) → false ≡ begins word
-unfolding begins
-begins_not word a ea h = rw (← ea, ne_eqb a 85 h)
 
 -- bytes that are passed over
 skip_numbers : (k : ℕ) (s : List ℕ) → numbers_from k s ≡ numbers_from 0 (drop k s)
@@ -75,23 +63,23 @@ skip_all (suc k) [] = refl
 skip_all (suc k) (b ∷ s) = skip_all k s
 
 -- the next word
-next_number : (s : List ℕ) (x : ℕ) → 0 < length s → scalar_in (up_to 32 s) ≡ Value x → numbers_from 0 s ≡ x ∷ numbers_from 0 (after 32 s)
+next_number : (s : List ℕ) (x : ℕ) → 0 < length s → scalar_in (up_to 32 s) ≡ Some x → numbers_from 0 s ≡ x ∷ numbers_from 0 (after 32 s)
 unfolding numbers_from after
 next_number [] x h e = absurd (omega arith)
 next_number (b ∷ s) x h e = rw e (ap (λ r. x ∷ r) (skip_numbers (before 32 (b ∷ s)) s))
 
-next_all : (s : List ℕ) (x : ℕ) → 0 < length s → scalar_in (up_to 32 s) ≡ Value x → all_numbers 0 s ≡ all_numbers 0 (after 32 s)
+next_all : (s : List ℕ) (x : ℕ) → 0 < length s → scalar_in (up_to 32 s) ≡ Some x → all_numbers 0 s ≡ all_numbers 0 (after 32 s)
 unfolding all_numbers after
 next_all [] x h e = absurd (omega arith)
 next_all (b ∷ s) x h e = rw e (skip_all (before 32 (b ∷ s)) s)
 
 -- a word that is no number
-no_number : (s : List ℕ) → 0 < length s → scalar_in (up_to 32 s) ≡ Nothing → numbers_from 0 s ≡ []
+no_number : (s : List ℕ) → 0 < length s → scalar_in (up_to 32 s) ≡ None → numbers_from 0 s ≡ []
 unfolding numbers_from
 no_number [] h e = absurd (omega arith)
 no_number (b ∷ s) h e = rw e
 
-not_all : (s : List ℕ) → 0 < length s → scalar_in (up_to 32 s) ≡ Nothing → all_numbers 0 s ≡ false
+not_all : (s : List ℕ) → 0 < length s → scalar_in (up_to 32 s) ≡ None → all_numbers 0 s ≡ false
 unfolding all_numbers
 not_all [] h e = absurd (omega arith)
 not_all (b ∷ s) h e = rw e
@@ -109,7 +97,7 @@ module _ (bytes out₀ out : List ℕ) (at n : ℕ) (g : Counting bytes out₀ o
   all_written : numbers_from 0 (drop at bytes) ≡ [] → (n ≡ min (length (numbers_from 0 bytes)) (length out₀)) × Written (numbers_from 0 bytes) out (length out₀)
   all_written e = read_end (numbers_from 0 bytes) (numbers_from 0 (drop at bytes)) out n (length out₀) g.read g.same e
 
-  pub counting_end : length bytes ≤ at → (Scalars n ≡ counted_of bytes (length out₀)) × Written (numbers_from 0 bytes) out (length out₀)
+  pub counting_end : length bytes ≤ at → (Ok n ≡ counted_of bytes (length out₀)) × Written (numbers_from 0 bytes) out (length out₀)
   unfolding counted_of numbers_from all_numbers
   counting_end h =
       let d : drop at bytes ≡ [] = drop_of_length-le bytes h in
@@ -118,38 +106,28 @@ module _ (bytes out₀ out : List ℕ) (at n : ℕ) (g : Counting bytes out₀ o
       (rw (t, w.0), w.1)
 
   -- v is what the code read of the word
-  module _ (h : at < length bytes) (p : List ℕ) (v : Number) (ep : p ≡ up_to 32 (drop at bytes)) (ev : v ≡ scalar_in p) where
-    told : (k : Number) → v ≡ k → scalar_in (up_to 32 (drop at bytes)) ≡ k
+  module _ (h : at < length bytes) (p : List ℕ) (v : Option ℕ) (ep : p ≡ up_to 32 (drop at bytes)) (ev : v ≡ scalar_in p) where
+    told : (k : Option ℕ) → v ≡ k → scalar_in (up_to 32 (drop at bytes)) ≡ k
     told k f = rw (← ep) (sym ev ∙ f)
 
     left_some : 0 < length (drop at bytes)
     left_some = let l : length (drop at bytes) ≡ length bytes - at = length-drop at bytes in omega arith
 
-    pub counting_bad : v ≡ Nothing → (NotNumber n ≡ counted_of bytes (length out₀)) × Written (numbers_from 0 bytes) out (length out₀)
+    pub counting_bad : v ≡ None → (Err (NotNumber n) ≡ counted_of bytes (length out₀)) × Written (numbers_from 0 bytes) out (length out₀)
     unfolding counted_of
     counting_bad f =
-        let w : (n ≡ min (length (numbers_from 0 bytes)) (length out₀)) × Written (numbers_from 0 bytes) out (length out₀) = all_written (no_number (drop at bytes) left_some (told Nothing f)) in
-        let t : all_numbers 0 bytes ≡ false = sym g.goes ∙ not_all (drop at bytes) left_some (told Nothing f) in
+        let w : (n ≡ min (length (numbers_from 0 bytes)) (length out₀)) × Written (numbers_from 0 bytes) out (length out₀) = all_written (no_number (drop at bytes) left_some (told None f)) in
+        let t : all_numbers 0 bytes ≡ false = sym g.goes ∙ not_all (drop at bytes) left_some (told None f) in
         (rw (t, w.0), w.1)
 
-    pub counting_more : (x : ℕ) → v ≡ Value x → (next : ℕ) → next ≡ next_from 32 at bytes → (m : ℕ) (out' : List ℕ)
+    pub counting_more : (x : ℕ) → v ≡ Some x → (next : ℕ) → next ≡ next_from 32 at bytes → (m : ℕ) (out' : List ℕ)
         → m ≡ cond (ltb n (length out)) (n + 1) n → out' ≡ set out n x → Counting bytes out₀ out' next m
     counting_more x f next e m out' em eo =
         let en : drop next bytes ≡ after 32 (drop at bytes) = left_after bytes at next e in
-        let c : numbers_from 0 (drop at bytes) ≡ x ∷ numbers_from 0 (drop next bytes) = rw en (next_number (drop at bytes) x left_some (told (Value x) f)) in
+        let c : numbers_from 0 (drop at bytes) ≡ x ∷ numbers_from 0 (drop next bytes) = rw en (next_number (drop at bytes) x left_some (told (Some x) f)) in
         let r : Read (numbers_from 0 bytes) (x ∷ numbers_from 0 (drop next bytes)) out n = rw c at g.read in
         record {
-          goes = rw en (sym (next_all (drop at bytes) x left_some (told (Value x) f)) ∙ g.goes);
+          goes = rw en (sym (next_all (drop at bytes) x left_some (told (Some x) f)) ∙ g.goes);
           same = ap length eo ∙ length-set out n x ∙ g.same;
           read = read_next (numbers_from 0 bytes) (numbers_from 0 (drop next bytes)) out n x r m out' em eo;
         }
-
--- a label of either form; t is what the code says of its first bytes
-module _ (bytes out : List ℕ) (room : ℕ) (t : Bool) (r : Taken) (e : t ≡ begins bytes) where
-  pub label_numbers : t ≡ true → (r ≡ counted_of bytes room) × Written (numbers_from 0 bytes) out room → (r ≡ label_of bytes room) × Written (label_scalars bytes) out room
-  unfolding label_of label_scalars
-  label_numbers h k = rw (← e, h) k
-
-  pub label_utf8 : t ≡ false → (r ≡ read_of bytes room) × Written (scalars_from 0 bytes) out room → (r ≡ label_of bytes room) × Written (label_scalars bytes) out room
-  unfolding label_of label_scalars
-  label_utf8 h k = rw (← e, h) k

@@ -1,4 +1,5 @@
 -- A text of bytes read character by character: what is read so far, and what is left. Assumes nothing.
+use Rattle.std.specs.Prelude.{Some, None, Ok, Err}
 use Prim.Native.Nat.{ℕ, zero, suc, ◌+◌, ◌-◌, ◌≤◌, ◌<◌, min}
 use mathlib.Core.Path.{◌≡◌, refl, sym, ◌∙◌, ap}
 use mathlib.Core.Bool.{true, false, cond}
@@ -10,10 +11,8 @@ use lib.ListN.{length, get_or, take, drop, set, length-drop, length-set, drop_of
 use lib.Seq.{take_all, take-suc, take-suc-set, set_out, get_or-drop, drop-drop}
 use borrow.Author.Tests.{ltb-true, ltb-false, lt-ltb, le-ltb}
 use Rattle.basics.proofs.Tests.{by_test}
-use Rattle.label.specs.declared.texts.Taken.TheVariants.{Scalars, NotUtf8}
-use Rattle.label.specs.declared.utf8.Decoded.{Decoded}
-use Rattle.label.specs.declared.utf8.Decoded.TheVariants.{Scalar, Bad}
-use Rattle.label.specs.Utf8.{decode_of, scalars_from, stop_from, read_of}
+use Rattle.label.specs.declared.texts.Unread.TheVariants.{NotUtf8}
+use Rattle.label.specs.Utf8.{Decoded, decode_of, scalars_from, stop_from, read_of}
 use Rattle.label.proofs.Decoding.{read_inside}
 
 -- bytes that are passed over
@@ -30,13 +29,13 @@ skip_stop (suc k) [] h = absurd (omega arith)
 skip_stop (suc k) (b ∷ s) h = let e : stop_from k s ≡ k + stop_from 0 (drop k s) = skip_stop k s (omega arith) in omega arith
 
 -- the next character
-next_scalar : (s : List ℕ) (x n : ℕ) → 0 < length s → 0 < n → decode_of s ≡ Scalar x n → scalars_from 0 s ≡ x ∷ scalars_from 0 (drop n s)
+next_scalar : (s : List ℕ) (x n : ℕ) → 0 < length s → 0 < n → decode_of s ≡ Some (x, n) → scalars_from 0 s ≡ x ∷ scalars_from 0 (drop n s)
 unfolding scalars_from
 next_scalar [] x n h k e = absurd (omega arith)
 next_scalar (b ∷ s) x zero h k e = absurd (omega arith)
 next_scalar (b ∷ s) x (suc n) h k e = let f : suc n - 1 ≡ n = omega arith in rw (e, f) (ap (λ r. x ∷ r) (skip_scalars n s))
 
-next_stop : (s : List ℕ) (x n : ℕ) → 0 < n → n ≤ length s → decode_of s ≡ Scalar x n → stop_from 0 s ≡ n + stop_from 0 (drop n s)
+next_stop : (s : List ℕ) (x n : ℕ) → 0 < n → n ≤ length s → decode_of s ≡ Some (x, n) → stop_from 0 s ≡ n + stop_from 0 (drop n s)
 unfolding stop_from
 next_stop [] x n h k e = absurd (omega arith)
 next_stop (b ∷ s) x zero h k e = absurd (omega arith)
@@ -46,12 +45,12 @@ next_stop (b ∷ s) x (suc n) h k e =
     rw (e, f) (omega arith)
 
 -- no next character
-no_scalar : (s : List ℕ) → 0 < length s → decode_of s ≡ Bad → scalars_from 0 s ≡ []
+no_scalar : (s : List ℕ) → 0 < length s → decode_of s ≡ None → scalars_from 0 s ≡ []
 unfolding scalars_from
 no_scalar [] h e = absurd (omega arith)
 no_scalar (b ∷ s) h e = rw e
 
-no_stop : (s : List ℕ) → 0 < length s → decode_of s ≡ Bad → stop_from 0 s ≡ 0
+no_stop : (s : List ℕ) → 0 < length s → decode_of s ≡ None → stop_from 0 s ≡ 0
 unfolding stop_from
 no_stop [] h e = absurd (omega arith)
 no_stop (b ∷ s) h e = rw e
@@ -138,7 +137,7 @@ module _ (bytes out₀ out : List ℕ) (at n : ℕ) (g : Reading bytes out₀ ou
   all_written : scalars_from 0 (drop at bytes) ≡ [] → (n ≡ min (length (scalars_from 0 bytes)) (length out₀)) × Written (scalars_from 0 bytes) out (length out₀)
   all_written e = read_end (scalars_from 0 bytes) (scalars_from 0 (drop at bytes)) out n (length out₀) g.read g.same e
 
-  pub reading_end : length bytes ≤ at → (Scalars n ≡ read_of bytes (length out₀)) × Written (scalars_from 0 bytes) out (length out₀)
+  pub reading_end : length bytes ≤ at → (Ok n ≡ read_of bytes (length out₀)) × Written (scalars_from 0 bytes) out (length out₀)
   unfolding read_of scalars_from stop_from
   reading_end h =
       let d : drop at bytes ≡ [] = drop_of_length-le bytes h in
@@ -158,22 +157,22 @@ module _ (bytes out₀ out : List ℕ) (at n : ℕ) (g : Reading bytes out₀ ou
     left_some : 0 < length (drop at bytes)
     left_some = let l : length (drop at bytes) ≡ length bytes - at = length-drop at bytes in omega arith
 
-    pub reading_bad : r ≡ Bad → (NotUtf8 at ≡ read_of bytes (length out₀)) × Written (scalars_from 0 bytes) out (length out₀)
+    pub reading_bad : r ≡ None → (Err (NotUtf8 at) ≡ read_of bytes (length out₀)) × Written (scalars_from 0 bytes) out (length out₀)
     unfolding read_of
     reading_bad f =
-        let b : decode_of (drop at bytes) ≡ Bad = sym told ∙ f in
+        let b : decode_of (drop at bytes) ≡ None = sym told ∙ f in
         let t : stop_from 0 (drop at bytes) ≡ 0 = no_stop (drop at bytes) left_some b in
         let q : stop_from 0 bytes ≡ at = omega (arith, g.stops) in
         let l : ltb at (length bytes) ≡ true = lt-ltb at (length bytes) h in
         (rw (q, l), (all_written (no_scalar (drop at bytes) left_some b)).1)
 
     -- m and out' are what was stored
-    pub reading_more : (x k : ℕ) → r ≡ Scalar x k → (m : ℕ) (out' : List ℕ) → m ≡ cond (ltb n (length out)) (n + 1) n → out' ≡ set out n x
+    pub reading_more : (x k : ℕ) → r ≡ Some (x, k) → (m : ℕ) (out' : List ℕ) → m ≡ cond (ltb n (length out)) (n + 1) n → out' ≡ set out n x
         → Reading bytes out₀ out' (at + k) m
     reading_more x k f m out' em eo =
         let i : (at < at + k) × (at + k ≤ length bytes) = read_inside bytes at x k r h e f in
         let l : length (drop at bytes) ≡ length bytes - at = length-drop at bytes in
-        let b : decode_of (drop at bytes) ≡ Scalar x k = sym told ∙ f in
+        let b : decode_of (drop at bytes) ≡ Some (x, k) = sym told ∙ f in
         let d : drop k (drop at bytes) ≡ drop (at + k) bytes = drop-drop k at bytes in
         let s : stop_from 0 (drop at bytes) ≡ k + stop_from 0 (drop k (drop at bytes)) = next_stop (drop at bytes) x k (omega arith) (omega arith) b in
         let s' : stop_from 0 (drop at bytes) ≡ k + stop_from 0 (drop (at + k) bytes) = rw d at s in

@@ -1,134 +1,96 @@
-// The characters that the calls of one mode push, in columns, in the order in which they are drawn.
-use classes::Mode;
+// The characters that the calls of one mode push, in the order in which they are drawn.
+use classes::{Mode, Shape};
 use parse::{Cluster, Pushed};
-use records::Parser;
+use records::cells::first;
+use records::{Columns, Parser, Refusal};
 use segment::{Segmenter, What};
 
 // No mode pushes more than twice as many characters as a text has.
-pub type Scalars = [u32; 8192];
+const MOST: usize = 8192;
 
-pub type Bytes = [u8; 8192];
-
-// How many cells are written, and the index after that of the last record that was pushed.
+// A character: whether a cluster begins with it, and one that is broken; whether its record was pushed before; whether more is noted
+// after it.
 #[derive(Clone, Copy)]
-pub struct Seen {
-    pub cells: usize,
-    pub next: usize,
+pub(crate) struct Cell {
+    pub scalar: u32,
+    pub shape: Shape,
+    pub begins: bool,
+    pub broken: bool,
+    pub repeated: bool,
+    pub noted: bool,
 }
 
-#[derive(Clone, Copy)]
-pub enum Outcome {
-    Cells(usize),
-    Refused { number: u8, index: usize },
+impl Cell {
+    const EMPTY: Cell = Cell {
+        scalar: 0,
+        shape: Shape::Base,
+        begins: false,
+        broken: false,
+        repeated: false,
+        noted: false,
+    };
 }
 
-fn flag(b: bool) -> u8 {
-    if b { 1 } else { 0 }
+// The cells that are written, and the index after that of the last record that was pushed.
+#[derive(Drop)]
+pub(crate) struct Drawn {
+    cells: [Cell; MOST],
+    len: usize,
+    next: usize,
 }
 
-// A character of a record that was pushed before is repeated.
-fn put(
-    c: Pushed,
-    starts: bool,
-    broken: bool,
-    seen: Seen,
-    scalars: &mut Scalars,
-    shapes: &mut Bytes,
-    begins: &mut Bytes,
-    brokens: &mut Bytes,
-    repeats: &mut Bytes,
-    noteds: &mut Bytes,
-) -> Seen {
-    let at = seen.cells;
-    let index = c.index as usize;
-    let class = c.class;
-    if at < 8192 {
-        scalars[at] = c.scalar;
-        shapes[at] = class.code();
-        begins[at] = flag(starts);
-        brokens[at] = flag(starts && broken);
-        repeats[at] = flag(index < seen.next);
-        noteds[at] = flag(0 < c.noted);
-        return Seen {
-            cells: at + 1,
-            next: index + 1,
-        };
+impl Drawn {
+    pub(crate) fn new() -> Drawn {
+        Drawn {
+            cells: [Cell::EMPTY; MOST],
+            len: 0,
+            next: 0,
+        }
     }
-    seen
-}
 
-fn put_cluster(
-    cluster: Cluster,
-    start: Seen,
-    scalars: &mut Scalars,
-    shapes: &mut Bytes,
-    begins: &mut Bytes,
-    brokens: &mut Bytes,
-    repeats: &mut Bytes,
-    noteds: &mut Bytes,
-) -> Seen {
-    let chars = cluster.chars;
-    let len = cluster.len;
-    let broken = cluster.info.broken;
-    let mut seen = start;
-    for i in 0..32usize {
-        if i < len {
-            seen = put(
-                chars[i],
-                i == 0,
-                broken,
-                seen,
-                scalars,
-                shapes,
+    pub(crate) fn cells(&self) -> &[Cell] {
+        first(&self.cells, self.len)
+    }
+
+    fn put(&mut self, c: &Pushed, begins: bool, broken: bool) {
+        let index = usize::from(c.index);
+        if self.len < MOST {
+            self.cells[self.len] = Cell {
+                scalar: c.scalar,
+                shape: c.class,
                 begins,
-                brokens,
-                repeats,
-                noteds,
-            );
+                broken: begins && broken,
+                repeated: index < self.next,
+                noted: 0 < c.noted,
+            };
+            self.len += 1;
+            self.next = index + 1;
         }
     }
-    seen
-}
 
-// Every call from the start. Each passes a token, so the turns are never used up.
-pub(crate) fn collect<'s, 'a>(
-    parser: Parser,
-    mode: Mode,
-    wides: &'s [&'a [u32]; 2],
-    bytes: &'s [&'a [u8]; 15],
-    firsts: &'a [u16],
-    oscalars: &mut Scalars,
-    shapes: &mut Bytes,
-    begins: &mut Bytes,
-    brokens: &mut Bytes,
-    repeats: &mut Bytes,
-    noteds: &mut Bytes,
-) -> Outcome {
-    let mut seen = Seen { cells: 0, next: 0 };
-    let mut state = Segmenter::start(parser, mode);
-    let mut turns = u64::MAX;
-    while turns > 0 {
-        let answer = state.next_in(wides, bytes, firsts);
-        let cluster = answer.cluster;
-        let what = answer.what;
-        state = answer.state;
-        match what {
-            What::Found => {
-                seen = put_cluster(
-                    cluster, seen, oscalars, shapes, begins, brokens, repeats, noteds,
-                );
-                turns -= 1;
-            }
-            What::Over => {
-                turns = 0;
-            }
-            What::Refused(refusal) => {
-                return Outcome::Refused {
-                    number: refusal.number,
-                    index: refusal.index,
-                };
-            }
+    fn put_cluster(&mut self, cluster: &Cluster) {
+        for (i, c) in cluster.chars.iter().take(cluster.len).enumerate() {
+            self.put(c, i == 0, cluster.info.broken);
         }
     }
-    Outcome::Cells(seen.cells)
+
+    // Every call from the start. Each passes a token, so the loop ends.
+    #[tactic(auto, using(segment::proofs::Left::fewer))]
+    pub(crate) fn collect(
+        &mut self,
+        parser: Parser,
+        mode: Mode,
+        columns: &Columns,
+    ) -> Result<(), Refusal> {
+        let mut state = Segmenter::start(parser, mode);
+        loop {
+            let answer = state.next(columns);
+            match answer.what {
+                What::Found => self.put_cluster(&answer.cluster),
+                What::Over => return Ok(()),
+                What::Refused(refusal) => return Err(refusal),
+            }
+            state = answer.state;
+        }
+    }
 }

@@ -1,170 +1,110 @@
 // The picture of a label: its scalars, their classes, and the clusters of both modes; or why there is none.
-use crate::cells::{Outcome, collect};
-use crate::lookup::{Field, classed, most};
-use crate::print::write;
-use crate::texts::Taken;
-use crate::{boxes, print, texts, zeros};
-use classes::Mode;
-use records::Parser;
-use records::cells::cell32;
+use crate::COLUMN;
+use crate::boxes::draw;
+use crate::cells::Drawn;
+use crate::lookup::{Field, classed};
+use crate::print::hex;
+use crate::texts::{Unread, read};
+use classes::{Mode, use_class};
+use console::{decimal, write};
+use records::cells::{cell, first};
+use records::{Columns, Parser, Refusal};
 
 // The Myanmar block and its two extensions.
 fn is_myanmar(x: u32) -> bool {
-    if x < 0x1000 {
-        return false;
-    }
-    if x < 0x10A0 {
-        return true;
-    }
-    if x < 0xA9E0 {
-        return false;
-    }
-    if x < 0xAA00 {
-        return true;
-    }
-    if x < 0xAA60 {
-        return false;
-    }
-    x < 0xAA80
+    matches!(x, 0x1000..=0x109F | 0xA9E0..=0xA9FF | 0xAA60..=0xAA7F)
 }
 
 // Myanmar for a text with a Myanmar character, else simple.
 fn parser_of(scalars: &[u32]) -> Parser {
-    let mut i: usize = 0;
-    while i < scalars.len() {
-        if is_myanmar(scalars[i]) {
-            return Parser::Myanmar;
-        }
-        i += 1;
+    if scalars.iter().any(|&x| is_myanmar(x)) {
+        Parser::Myanmar
+    } else {
+        Parser::Simple
     }
-    Parser::Simple
 }
 
 // The three refusals of the library that a label can meet.
-fn refused(number: u8, index: usize, scalars: &[u32]) {
+fn refused(refusal: Refusal, scalars: &[u32]) {
     write(b"refused (");
-    print::decimal(number as usize);
+    decimal(u64::from(refusal.number));
     write(b"): ");
-    if number == 1 {
+    if refusal.number == 1 {
         write(b"the label has more than 4096 characters\n");
         return;
     }
     write(b"character ");
-    print::decimal(index);
+    decimal(refusal.index as u64);
     write(b" (from 0), U+");
-    print::hex(cell32(scalars, index));
-    if number == 3 {
+    hex(cell(scalars, refusal.index, 0));
+    if refusal.number == 3 {
         write(b", is a surrogate or above U+10FFFF\n");
     } else {
         write(b", has no classes in data/label-classes.txt\n");
     }
 }
 
-// Whether the mode was drawn.
-fn draw_mode<'s, 'a>(
-    parser: Parser,
-    mode: Mode,
-    wides: &'s [&'a [u32]; 2],
-    bytes: &'s [&'a [u8]; 15],
-    firsts: &'a [u16],
-) -> bool {
-    let mut oscalars = [0u32; 8192];
-    let mut shapes = [0u8; 8192];
-    let mut begins = [0u8; 8192];
-    let mut brokens = [0u8; 8192];
-    let mut repeats = [0u8; 8192];
-    let mut noteds = [0u8; 8192];
-    let outcome = collect(
-        parser,
-        mode,
-        wides,
-        bytes,
-        firsts,
-        &mut oscalars,
-        &mut shapes,
-        &mut begins,
-        &mut brokens,
-        &mut repeats,
-        &mut noteds,
-    );
-    match outcome {
-        Outcome::Cells(n) => {
-            boxes::draw(
-                parser, mode, n, &oscalars, &shapes, &begins, &brokens, &repeats, &noteds,
-            );
-            true
-        }
-        Outcome::Refused { number, index } => {
-            refused(number, index, wides[0]);
-            false
-        }
-    }
+fn draw_mode(parser: Parser, mode: Mode, columns: &Columns) -> Result<(), Refusal> {
+    let mut drawn = Drawn::new();
+    drawn.collect(parser, mode, columns)?;
+    draw(parser, mode, drawn.cells());
+    Ok(())
 }
 
-// Crate mode over whole mode, unless the label is refused. Every column that a label does not have says "rest", Other or no, and there
-// are no parts.
-fn draw_modes<'a>(
-    scalars: &'a [u32],
-    breaks: &'a [u8],
-    myanmars: &'a [u8],
-    categories: &'a [u8],
-    emojis: &'a [u8],
-    selectors: &'a [u8],
-    rests: &'a [u8],
-    zeros: &'a [u8],
-    firsts: &'a [u16],
-) {
-    let parser = parser_of(scalars);
-    let wides = [scalars, &scalars[..0]];
-    let none = &zeros[..0];
-    let bytes = [
-        breaks, rests, myanmars, categories, zeros, emojis, emojis, emojis, emojis, selectors,
-        zeros, zeros, none, none, none,
-    ];
-    if draw_mode(parser, Mode::Crate, &wides, &bytes, firsts) {
-        draw_mode(parser, Mode::Whole, &wides, &bytes, firsts);
-    }
+// Crate mode over whole mode, unless the label is refused.
+fn draw_modes(columns: &Columns) -> Result<(), Refusal> {
+    let parser = parser_of(columns.scalars);
+    draw_mode(parser, Mode::Crate, columns)?;
+    draw_mode(parser, Mode::Whole, columns)
 }
 
-fn draw_scalars(scalars: &[u32]) {
-    let breaks = classed(Field::Break, scalars);
-    let myanmars = classed(Field::Myanmar, scalars);
-    let categories = classed(Field::Category, scalars);
+// Every column that a label does not have says "rest", Other or no, and there are no parts.
+fn draw_scalars(scalars: &[u32]) -> Result<(), Refusal> {
+    let n = scalars.len();
+    let zeros = [0; COLUMN];
+    let none = first(&zeros, n);
     let emojis = classed(Field::Emoji, scalars);
-    let selectors = classed(Field::Selector, scalars);
-    let rests = zeros::rests();
-    let none = zeros::column8();
-    let firsts = zeros::column16();
-    let n = most(scalars.len());
-    draw_modes(
+    let emojis = first(&emojis, n);
+    draw_modes(&Columns {
         scalars,
-        &breaks[..n],
-        &myanmars[..n],
-        &categories[..n],
-        &emojis[..n],
-        &selectors[..n],
-        &rests[..n],
-        &none[..n],
-        &firsts[..n],
-    );
+        breaks: first(&classed(Field::Break, scalars), n),
+        uses: first(&[use_class::REST; COLUMN], n),
+        myanmars: first(&classed(Field::Myanmar, scalars), n),
+        categories: first(&classed(Field::Category, scalars), n),
+        words: none,
+        semojis: emojis,
+        memojis: emojis,
+        cemojis: emojis,
+        pictographs: emojis,
+        selectors: first(&classed(Field::Selector, scalars), n),
+        decomposes: none,
+        firsts: first(&[0; COLUMN], n),
+        counts: none,
+        pscalars: &[],
+        pbreaks: &[],
+        puses: &[],
+        pcategories: &[],
+    })
 }
 
 // The picture of one label, or in words why there is none.
 pub(crate) fn show(label: &[u8]) {
-    let mut scalars = zeros::column32();
-    match texts::read(label, &mut scalars) {
-        Taken::Scalars(n) => {
-            let k = most(n);
-            draw_scalars(&scalars[..k]);
+    let mut scalars = [0; COLUMN];
+    match read(label, &mut scalars) {
+        Ok(n) => {
+            let scalars = first(&scalars, n);
+            if let Err(refusal) = draw_scalars(scalars) {
+                refused(refusal, scalars);
+            }
         }
-        Taken::NotUtf8(at) => {
+        Err(Unread::NotUtf8(at)) => {
             write(b"refused: no UTF-8 character begins at byte ");
-            print::decimal(at);
+            decimal(at as u64);
             write(b" (from 0)\n");
         }
-        Taken::NotNumber(k) => {
+        Err(Unread::NotNumber(k)) => {
             write(b"refused: word ");
-            print::decimal(k);
+            decimal(k as u64);
             write(b" (from 0) is not U+ with hexadecimal digits up to FFFFFFFF\n");
         }
     }

@@ -1,19 +1,9 @@
 // The small pieces of a line.
-
-// The descriptor of standard output.
-const STDOUT: i32 = 1;
-
-pub(crate) fn write(text: &[u8]) {
-    io::write_all(STDOUT, text);
-}
-
-pub(crate) fn decimal(n: usize) {
-    io::print_decimal(STDOUT, n as u64);
-}
+use console::{decimal, write};
 
 // "1 cluster", "2 clusters"
 pub(crate) fn count(n: usize, noun: &[u8]) {
-    decimal(n);
+    decimal(n as u64);
     write(b" ");
     write(noun);
     if n != 1 {
@@ -27,51 +17,19 @@ pub(crate) fn blanks(n: usize) {
     }
 }
 
-fn digit(d: u32) -> u8 {
-    let small = (d % 16) as u8;
-    if small < 10 { 48 + small } else { 55 + small }
-}
-
-// How many digits `hex` writes of a scalar.
-pub(crate) fn digits(x: u32) -> usize {
-    if x < 0x10000 {
-        return 4;
+// Capital digits, four or as many more as needed; the answer is how many.
+pub(crate) fn hex(x: u32) -> usize {
+    let mut digits = [0u8; 16];
+    let n = io::hex(u64::from(x), 4, &mut digits);
+    for digit in &digits[..n] {
+        write(&[digit.to_ascii_uppercase()]);
     }
-    if x < 0x100000 {
-        return 5;
-    }
-    6
-}
-
-// Capital digits, four or as many more as needed.
-pub(crate) fn hex(x: u32) {
-    let mut unit: u32 = 0x10000000;
-    while 0 < unit {
-        if unit <= x || unit <= 0x1000 {
-            write(&[digit(x / unit)]);
-        }
-        unit /= 16;
-    }
-}
-
-fn tail(x: u32) -> u8 {
-    128 + (x % 64) as u8
+    n
 }
 
 // The character itself, as UTF-8.
 pub(crate) fn sign(x: u32) {
-    if x < 0x80 {
-        write(&[x as u8]);
-    } else if x < 0x800 {
-        write(&[192 + (x / 64) as u8, tail(x)]);
-    } else if x < 0x10000 {
-        write(&[224 + (x / 4096) as u8, tail(x / 64), tail(x)]);
-    } else {
-        write(&[
-            240 + (x / 262144 % 8) as u8,
-            tail(x / 4096),
-            tail(x / 64),
-            tail(x),
-        ]);
+    if let Some(c) = char::from_u32(x) {
+        write(c.encode_utf8(&mut [0; 4]).as_bytes());
     }
 }

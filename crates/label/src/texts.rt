@@ -3,17 +3,18 @@ ghost use Rattle.std.specs.Prelude.{◌≡◌, cond, ◌+◌, min, ltb, length, 
 ghost use Rattle.label.specs.Numbers.{begins, scalar_in, numbers_from, counted_of, label_scalars, label_of};
 ghost use Rattle.label.specs.Utf8.{scalars_from, read_of};
 
-use crate::utf8::{Decoded, decode};
-use cases::{Base, Number, next_of, read_number, span_at};
-use records::cells::cell8;
+use crate::utf8::decode;
+use cases::{Base, next_of, read_number, span_at};
+use records::cells::cell;
 
-// How many scalars were read, or where none was: the byte or the number, counted from 0.
+// What could not be read: the byte that begins no character, or the word that is no number, counted from 0.
 #[derive(Clone, Copy)]
-pub enum Taken {
-    Scalars(usize),
+pub enum Unread {
     NotUtf8(usize),
     NotNumber(usize),
 }
+
+// The readers go on by as much as a character or a word is long: no range counts the places.
 
 // A cell past the column's end is dropped: the column is longer than an accepted text.
 fn store(out: &mut [u32], n: usize, x: u32) -> usize
@@ -27,74 +28,66 @@ fn store(out: &mut [u32], n: usize, x: u32) -> usize
     n
 }
 
-fn read_utf8(bytes: &[u8], out: &mut [u32]) -> Taken
+#[tactic(auto, using(crate::proofs::Reading::reading_start))]
+fn read_utf8(bytes: &[u8], out: &mut [u32]) -> Result<usize, Unread>
     ensures value { result ≡ read_of bytes.now (length out.old) }
     ensures out_after { take (min (length (scalars_from 0 bytes.now)) (length out.old)) out.new ≡ take (min (length (scalars_from 0 bytes.now)) (length out.old)) (scalars_from 0 bytes.now) }
 {
     let mut at: usize = 0;
     let mut n: usize = 0;
     while at < bytes.len() {
-        match decode(&bytes[at..]) {
-            Decoded::Scalar { value, length } => {
-                n = store(out, n, value);
-                at += length;
-            }
-            Decoded::Bad => {
-                return Taken::NotUtf8(at);
-            }
-        }
+        let Some((x, length)) = decode(&bytes[at..]) else {
+            return Err(Unread::NotUtf8(at));
+        };
+        n = store(out, n, x);
+        at += length;
     }
-    Taken::Scalars(n)
+    Ok(n)
 }
 
+#[tactic(auto, unfolding(crate::specs::Numbers::begins))]
 fn begins_number(word: &[u8]) -> bool
     ensures { result ≡ begins word.now }
 {
-    if cell8(word, 0) == b'U' {
-        return cell8(word, 1) == b'+';
-    }
-    false
+    cell(word, 0, 0) == b'U' && cell(word, 1, 0) == b'+'
 }
 
-fn number(word: &[u8]) -> Number
+#[tactic(auto, using(crate::proofs::Numbers::short_word, crate::proofs::Numbers::other_word, crate::proofs::Numbers::number_word))]
+fn number(word: &[u8]) -> Option<u32>
     ensures { result ≡ scalar_in word.now }
 {
-    if word.len() < 2 {
-        return Number::Nothing;
+    if word.len() < 2 || !begins_number(word) {
+        return None;
     }
-    if begins_number(word) {
-        return read_number(&word[2..], Base::Hexadecimal, 0xFFFFFFFF);
-    }
-    Number::Nothing
+    read_number(&word[2..], Base::Hexadecimal, u32::MAX)
 }
 
-fn read_numbers(bytes: &[u8], out: &mut [u32]) -> Taken
+#[tactic(auto, using(crate::proofs::Numbers::counting_start, crate::proofs::Numbers::next_falls))]
+fn read_numbers(bytes: &[u8], out: &mut [u32]) -> Result<usize, Unread>
     ensures value { result ≡ counted_of bytes.now (length out.old) }
     ensures out_after { take (min (length (numbers_from 0 bytes.now)) (length out.old)) out.new ≡ take (min (length (numbers_from 0 bytes.now)) (length out.old)) (numbers_from 0 bytes.now) }
 {
     let mut at: usize = 0;
     let mut n: usize = 0;
     while at < bytes.len() {
-        match number(span_at(bytes, at, b' ')) {
-            Number::Value(x) => {
-                n = store(out, n, x);
-                at = next_of(bytes, at, b' ');
-            }
-            Number::Nothing => {
-                return Taken::NotNumber(n);
-            }
-        }
+        let Some(x) = number(span_at(bytes, at, b' ')) else {
+            return Err(Unread::NotNumber(n));
+        };
+        n = store(out, n, x);
+        at = next_of(bytes, at, b' ');
     }
-    Taken::Scalars(n)
+    Ok(n)
 }
 
-// The answer says how many cells are written, and why not more.
-pub(crate) fn read(bytes: &[u8], out: &mut [u32]) -> Taken
+// The answer says how many cells are written, or why none are asked for.
+#[tactic(auto, unfolding(crate::specs::Numbers::label_of, crate::specs::Numbers::label_scalars))]
+pub(crate) fn read(bytes: &[u8], out: &mut [u32]) -> Result<usize, Unread>
     ensures value { result ≡ label_of bytes.now (length out.old) }
     ensures out_after { take (min (length (label_scalars bytes.now)) (length out.old)) out.new ≡ take (min (length (label_scalars bytes.now)) (length out.old)) (label_scalars bytes.now) }
 {
     if begins_number(bytes) {
-        return read_numbers(bytes, out);
+        read_numbers(bytes, out)
+    } else {
+        read_utf8(bytes, out)
     }
-    read_utf8(bytes, out)
 }

@@ -1,5 +1,6 @@
 -- What is true of every run of `next`: it is the fold of the step, its states never leave the table's rows, and where word stands.
 -- Assumes nothing.
+use Rattle.std.specs.Prelude.{Ok, Err}
 use Prim.Native.Nat.{ℕ, zero, suc, ◌+◌, ◌<◌, ◌≤◌}
 use mathlib.Core.Path.{◌≡◌, refl, ap}
 use mathlib.Core.Bool.{false}
@@ -18,12 +19,11 @@ use Rattle.records.proofs.Unique.{unique}
 use Rattle.records.proofs.Verdicts.{never, unrefused, passes, over_each}
 use Rattle.records.specs.declared.Side.TheVariants.{Record, Neither}
 use Rattle.records.specs.declared.Refusal.{Refusal}
-use Rattle.records.specs.declared.Verdict.{Verdict}
-use Rattle.records.specs.declared.Verdict.TheVariants.{Accepted, Refused}
+use Rattle.records.specs.Verdict.{Verdict}
 use Rattle.words.specs.Rules.{ruled}
 use Rattle.words.specs.Step as Step
 use Rattle.words.specs.Run as Words
-use Rattle.words.specs.declared.Next.{Next}
+use Rattle.words.specs.Next.{Next}
 use Rattle.words.specs.declared.WordState.{WordState}
 use Rattle.words.specs.declared.WordStep.{WordStep}
 use Rattle.words.proofs.Laws.{answer_bit, run_folds}
@@ -50,19 +50,19 @@ unfolding state_at Words.state_at
 begins table lines words pictographs = refl
 
 -- what the word step said where it accepted
-word_verdict_lem : (s : WordState) (class pictograph : ℕ) (next : Next) (v : Verdict) → (Step.step_under v s class pictograph next).verdict ≡ Accepted → v ≡ Accepted
-word_verdict_lem s class pictograph next Accepted h = refl
-word_verdict_lem s class pictograph next (Refused r) h = never h
+word_verdict_lem : (s : WordState) (class pictograph : ℕ) (next : Next) (v : Verdict) → (Step.step_under v s class pictograph next).verdict ≡ Ok tt → v ≡ Ok tt
+word_verdict_lem s class pictograph next (Ok _) h = refl
+word_verdict_lem s class pictograph next (Err r) h = never h
 
 -- a text and a table that the check accepts
-module _ (table lines words pictographs : List ℕ) (accepted : check_verdict table lines words pictographs ≡ Accepted) where
+module _ (table lines words pictographs : List ℕ) (accepted : check_verdict table lines words pictographs ≡ Ok tt) where
   good_table : bad_table table ≡ false
   good_table = (check_passes table lines words pictographs accepted).1.0
 
   class_listed : (i : ℕ) → i < length lines → leb LineBreak.len (cell lines i) ≡ false
   unfolding judge_three
   class_listed i h =
-      let one : judge_record (cell lines i) (cell words i) (cell pictographs i) i ≡ Accepted =
+      let one : judge_record (cell lines i) (cell words i) (cell pictographs i) i ≡ (Ok tt) =
       over_each (λ k. judge_record (cell lines k) (cell words k) (cell pictographs k) k) (length lines) 0 (check_passes table lines words pictographs accepted).1.1 i (omega arith) (omega arith) in
       (neither (leb LineBreak.len (cell lines i)) (outside (coded (cell words i) WordBreak.len ∷ mark (cell pictographs i) ∷ [])) (unrefused _ 4 Record i one)).0
 
@@ -85,7 +85,7 @@ module _ (table lines words pictographs : List ℕ) (accepted : check_verdict ta
   -- after it and gives the line answer.
   pub line_folds : (strength : Strength) (i : ℕ) → i < length lines
       → step_of strength table (state_at table lines i) (cell lines i)
-      ≡ record { state = state_at table lines (i + 1); answer = line_at strength table lines i; verdict = Accepted }
+      ≡ record { state = state_at table lines (i + 1); answer = line_at strength table lines i; verdict = Ok tt }
   unfolding step_verdict judged line_at
   line_folds strength i h =
       let after : state_at table lines (i + 1) ≡ line_after table (state_at table lines i) (cell lines i) = unfold state_at in ap (state_at table lines) (add-one i) in
@@ -93,14 +93,14 @@ module _ (table lines words pictographs : List ℕ) (accepted : check_verdict ta
 
   word_fold : (i : ℕ) → i < length lines
       → Step.step_of (Words.state_at words pictographs i) (cell words i) (cell pictographs i) (Words.next_at words (i + 1))
-      ≡ record { state = Words.state_at words pictographs (i + 1); answer = Words.answer_at words pictographs i; verdict = Accepted }
+      ≡ record { state = Words.state_at words pictographs (i + 1); answer = Words.answer_at words pictographs i; verdict = Ok tt }
   word_fold i h =
       run_folds words pictographs (words_accepted table lines words pictographs accepted) i (rw (one_length table lines words pictographs accepted) h)
 
-  word_accepts : (i : ℕ) → i < length lines → Step.step_verdict (Words.state_at words pictographs i) (cell words i) (cell pictographs i) (Words.next_at words (i + 1)) ≡ Accepted
+  word_accepts : (i : ℕ) → i < length lines → Step.step_verdict (Words.state_at words pictographs i) (cell words i) (cell pictographs i) (Words.next_at words (i + 1)) ≡ Ok tt
   word_accepts i h = word_verdict_lem _ _ _ _ _ (ap (λ (r : WordStep). r.verdict) (word_fold i h))
 
-  next_accepts : (i : ℕ) → i < length lines → next_verdict table (both_at table lines words pictographs i) (cell lines i) (cell words i) (cell pictographs i) (Words.next_at words (i + 1)) ≡ Accepted
+  next_accepts : (i : ℕ) → i < length lines → next_verdict table (both_at table lines words pictographs i) (cell lines i) (cell words i) (cell pictographs i) (Words.next_at words (i + 1)) ≡ Ok tt
   unfolding next_verdict judged Step.step_verdict
   next_accepts i h =
       let p : _ = passes (refuse (Step.bad_record (cell words i) (cell pictographs i) (Words.next_at words (i + 1))) 4 Record 0) (refuse (Step.bad_state (Words.state_at words pictographs i)) 8 Neither 0) (word_accepts i h) in
@@ -111,11 +111,11 @@ module _ (table lines words pictographs : List ℕ) (accepted : check_verdict ta
   -- The run is the fold of the step of `next`.
   pub next_folds : (strength : Strength) (i : ℕ) → i < length lines
       → next_of strength table (both_at table lines words pictographs i) (cell lines i) (cell words i) (cell pictographs i) (Words.next_at words (i + 1))
-      ≡ record { state = both_at table lines words pictographs (i + 1); answer = boundary_at strength table lines words pictographs i; verdict = Accepted }
+      ≡ record { state = both_at table lines words pictographs (i + 1); answer = boundary_at strength table lines words pictographs i; verdict = Ok tt }
   unfolding next_ruled line_at
   next_folds strength i h =
       let after : state_at table lines (i + 1) ≡ line_after table (state_at table lines i) (cell lines i) = unfold state_at in ap (state_at table lines) (add-one i) in
-      let w : ruled (Words.state_at words pictographs i) (cell words i) (cell pictographs i) (Words.next_at words (i + 1)) ≡ record { state = Words.state_at words pictographs (i + 1); answer = Words.answer_at words pictographs i; verdict = Accepted } =
+      let w : ruled (Words.state_at words pictographs i) (cell words i) (cell pictographs i) (Words.next_at words (i + 1)) ≡ record { state = Words.state_at words pictographs (i + 1); answer = Words.answer_at words pictographs i; verdict = Ok tt } =
       rw (word_accepts i h) at (word_fold i h) in
       rw (next_accepts i h, w, after)
 
@@ -153,14 +153,14 @@ module _ (strength : Strength) (table lines words pictographs : List ℕ) (i : �
 
 -- The cells after a run: with a refusal as they were, else a record's cell has its answer, and a cell past the records is as it was.
 module _ (strength : Strength) (table lines words pictographs out : List ℕ) where
-  pub refused_keeps : (r : Refusal) → run_verdict table lines words pictographs (length out) ≡ Refused r → run_cells strength table lines words pictographs out ≡ out
+  pub refused_keeps : (r : Refusal) → run_verdict table lines words pictographs (length out) ≡ Err r → run_cells strength table lines words pictographs out ≡ out
   refused_keeps r e = rw e
 
-  pub record_cell : (i : ℕ) → i < length lines → run_verdict table lines words pictographs (length out) ≡ Accepted → cell (run_cells strength table lines words pictographs out) i ≡ answer_at strength table lines words pictographs i
+  pub record_cell : (i : ℕ) → i < length lines → run_verdict table lines words pictographs (length out) ≡ Ok tt → cell (run_cells strength table lines words pictographs out) i ≡ answer_at strength table lines words pictographs i
   record_cell i h e =
       rw e (written_cell (answer_at strength table lines words pictographs) out (length lines) i h)
 
-  pub later_cell : (k : ℕ) → run_verdict table lines words pictographs (length out) ≡ Accepted → cell (run_cells strength table lines words pictographs out) (length lines + k) ≡ cell out (length lines + k)
+  pub later_cell : (k : ℕ) → run_verdict table lines words pictographs (length out) ≡ Ok tt → cell (run_cells strength table lines words pictographs out) (length lines + k) ≡ cell out (length lines + k)
   later_cell k e =
       rw e (kept_cell (answer_at strength table lines words pictographs) out (length lines) k)
 

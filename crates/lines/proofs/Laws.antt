@@ -1,4 +1,5 @@
 -- What is true of every line step. Assumes nothing.
+use Rattle.std.specs.Prelude.{Ok, Err, Some}
 use Prim.Native.Nat.{ℕ, zero, suc, ◌+◌, ◌*◌, ◌%◌, ◌<◌, ◌≤◌}
 use mathlib.Core.Path.{◌≡◌, refl, ap}
 use mathlib.Core.Bool.{Bool, true, false, cond, not, ◌&&◌, ◌||◌}
@@ -12,21 +13,19 @@ use Rattle.basics.specs.Choices.{◌⇒◌▹◌}
 use Rattle.basics.specs.Sets.{any, member}
 use Rattle.basics.proofs.Tests.{by_test, if_intro, neither}
 use Rattle.records.specs.Text.{cell}
-use Rattle.records.specs.declared.Verdict.{Verdict}
-use Rattle.records.specs.declared.Verdict.TheVariants.{Accepted, Refused}
+use Rattle.records.specs.Verdict.{Verdict}
 use Rattle.records.proofs.Unique.{unique}
 use Rattle.lines.specs.LineBreak.{ID, ZWJ, len}
 use Rattle.lines.specs.Rules.{boundary_code, width, row_in, is_mandatory, is_allowed, pair, as_ideographs, kept_together, previous_in, left_of, right_of, asked, told, keeps, line_answer, line_after}
 use Rattle.lines.specs.Refusals.{rows_of, bad_table, step_verdict, step_under, step_of}
 use Rattle.lines.specs.declared.Strength.{Strength}
 use Rattle.lines.specs.declared.Strength.TheVariants.{Normal, BreakAll, KeepAll}
-use Rattle.lines.specs.declared.Previous.TheVariants.{Class}
 use Rattle.lines.specs.declared.Boundary.{Boundary}
 use Rattle.lines.specs.declared.LineState.{LineState}
 use Rattle.lines.specs.declared.LineStep.{LineStep}
 
 -- "Whatever the strength, the row that is stored is of the cell that Normal asks" (SCOPE 12.1).
-pub stored_is : (table : List ℕ) (s : LineState) (class : ℕ) → line_after table s class ≡ record { row = row_in (asked Normal table s class); previous = Class class }
+pub stored_is : (table : List ℕ) (s : LineState) (class : ℕ) → line_after table s class ≡ record { row = row_in (asked Normal table s class); previous = Some class }
 unfolding line_after
 stored_is table s class = refl
 
@@ -35,8 +34,8 @@ pub state_alike : (a b : Strength) (table : List ℕ) (s : LineState) (class : �
 state_alike a b table s class = go (step_verdict table s class)
   where
     go : (v : Verdict) → (step_under v a table s class).state ≡ (step_under v b table s class).state
-    go Accepted = refl
-    go (Refused r) = refl
+    go (Ok _) = refl
+    go (Err r) = refl
 
 -- no cell of a list of which no number passes a test passes it; past the end a cell is 0
 pub none_at : (p : ℕ → Bool) (xs : List ℕ) (i : ℕ) → any p xs ≡ false → p 0 ≡ false → p (get_or xs i 0) ≡ false

@@ -6,3 +6,4 @@ pub mod Inner
 pub mod NextStep
 pub mod PairTable
 pub mod Offences
+pub mod Previous

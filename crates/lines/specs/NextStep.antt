@@ -1,12 +1,11 @@
 -- The step of `next`: `check_line` and `check_word` at one record, and the two answers as one (SCOPE 12.1).
-use Rattle.std.specs.Prelude.{ℕ, Bool, ◌||◌, List, ◌∷◌}
+use Rattle.std.specs.Prelude.{ℕ, Bool, ◌||◌, List, ◌∷◌, Ok, Err}
 use Rattle.classes.specs.WordBreak as WordBreak
 use Rattle.records.specs.Refusals.{coded, mark, outside}
-use Rattle.records.specs.declared.Verdict.{Verdict}
-use Rattle.records.specs.declared.Verdict.TheVariants.{Accepted, Refused}
+use Rattle.records.specs.Verdict.{Verdict}
 use Rattle.words.specs.Rules.{ruled}
 use Rattle.words.specs.Step as Words
-use Rattle.words.specs.declared.Next.{Next}
+use Rattle.words.specs.Next.{Next}
 use Rattle.lines.specs.LineBreak as LineBreak
 use Rattle.lines.specs.Rules as Rules
 use Rattle.lines.specs.Rules.{line_answer, line_after, or_word}
@@ -40,14 +39,14 @@ next_ruled strength table s line word pictograph next =
     record {
       state = record { line = line_after table s.line line; word = w.state };
       answer = or_word (line_answer strength table s.line line) w.answer;
-      verdict = Accepted;
+      verdict = Ok tt;
     }
 
 -- with a refusal "the states that it was given and none"
 abbrev pub next_under : Verdict → Strength → List ℕ → BoundaryState → ℕ → ℕ → ℕ → Next → BoundaryStep
-next_under Accepted strength table s line word pictograph next = next_ruled strength table s line word pictograph next
-next_under (Refused r) strength table s line word pictograph next =
-    record { state = s; answer = Boundary.None; verdict = Refused r }
+next_under (Ok _) strength table s line word pictograph next = next_ruled strength table s line word pictograph next
+next_under (Err r) strength table s line word pictograph next =
+    record { state = s; answer = Boundary.None; verdict = Err r }
 
 abbrev pub next_of : Strength → List ℕ → BoundaryState → ℕ → ℕ → ℕ → Next → BoundaryStep
 next_of strength table s line word pictograph next =

@@ -4,7 +4,7 @@ use Rattle.classes.specs.WordBreak as WordBreak
 use Rattle.records.specs.Text.{cell}
 use Rattle.records.specs.Refusals.{coded, mark, outside}
 use Rattle.records.specs.Offences.{Line, line, Table, length_lines}
-use Rattle.words.specs.declared.Next.{Next}
+use Rattle.words.specs.Next.{Next}
 use Rattle.lines.specs.LineBreak as LineBreak
 use Rattle.lines.specs.Refusals.{bad_table, bad_state}
 use Rattle.lines.specs.NextStep.{bad_record, bad_states}

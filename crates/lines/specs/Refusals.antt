@@ -1,15 +1,13 @@
 -- The refusals of a line step (SCOPE 12.1).
-use Rattle.std.specs.Prelude.{ℕ, ◌/◌, ◌%◌, Bool, false, not, ◌||◌, List, eqb, leb, ltb, length}
+use Rattle.std.specs.Prelude.{ℕ, ◌/◌, ◌%◌, Bool, false, not, ◌||◌, List, eqb, leb, ltb, length, Ok, Err, Some, None}
 use Rattle.basics.specs.Sets.{any}
 use Rattle.records.specs.Refusals.{refuse, ◌⊳◌}
 use Rattle.records.specs.declared.Side.TheVariants.{Record, Neither}
-use Rattle.records.specs.declared.Verdict.{Verdict}
-use Rattle.records.specs.declared.Verdict.TheVariants.{Accepted, Refused}
+use Rattle.records.specs.Verdict.{Verdict}
 use Rattle.lines.specs.LineBreak as LineBreak
 use Rattle.lines.specs.Rules.{width, row_in, line_answer, line_after}
 use Rattle.lines.specs.declared.Strength.{Strength}
-use Rattle.lines.specs.declared.Previous.{Previous}
-use Rattle.lines.specs.declared.Previous.TheVariants.{Class, Nothing}
+use Rattle.lines.specs.Previous.{Previous}
 use Rattle.lines.specs.declared.Boundary.TheVariants as Boundary
 use Rattle.lines.specs.declared.LineState.{LineState}
 use Rattle.lines.specs.declared.LineStep.{LineStep}
@@ -24,8 +22,8 @@ bad_table table =
 
 -- 8: "a state whose row the table has not or whose class before is outside the list"
 abbrev pub bad_previous : Previous → Bool
-bad_previous (Class c) = leb LineBreak.len c
-bad_previous Nothing = false
+bad_previous (Some c) = leb LineBreak.len c
+bad_previous None = false
 
 abbrev pub bad_state : List ℕ → LineState → Bool
 bad_state table s = leb (rows_of table) s.row || bad_previous s.previous
@@ -40,9 +38,9 @@ step_verdict table s class = judged table (leb LineBreak.len class) (bad_state t
 
 -- with a refusal "the state that it was given and none"
 abbrev pub step_under : Verdict → Strength → List ℕ → LineState → ℕ → LineStep
-step_under Accepted strength table s class =
-    record { state = line_after table s class; answer = line_answer strength table s class; verdict = Accepted }
-step_under (Refused r) strength table s class = record { state = s; answer = Boundary.None; verdict = Refused r }
+step_under (Ok _) strength table s class =
+    record { state = line_after table s class; answer = line_answer strength table s class; verdict = Ok tt }
+step_under (Err r) strength table s class = record { state = s; answer = Boundary.None; verdict = Err r }
 
 abbrev pub step_of : Strength → List ℕ → LineState → ℕ → LineStep
 step_of strength table s class = step_under (step_verdict table s class) strength table s class

@@ -1,13 +1,12 @@
 -- `check_line` of src/text/analyze.rs over a lent table (SCOPE 12.1).
-use Rattle.std.specs.Prelude.{ℕ, ◌+◌, ◌*◌, ◌/◌, ◌%◌, Bool, false, not, ◌&&◌, List, [], ◌∷◌, eqb}
+use Rattle.std.specs.Prelude.{ℕ, ◌+◌, ◌*◌, ◌/◌, ◌%◌, Bool, false, not, ◌&&◌, List, [], ◌∷◌, eqb, Some, None}
 use Rattle.basics.specs.Sets.{member}
 use Rattle.basics.specs.Choices.{◌⇒◌▹◌}
 use Rattle.records.specs.Text.{cell}
 use Rattle.lines.specs.LineBreak.{AI, AL, CJ, H2, H3, HY, ID, JL, JT, JV, NU, SA, ZWJ}
 use Rattle.lines.specs.declared.Strength.{Strength}
 use Rattle.lines.specs.declared.Strength.TheVariants.{Normal, BreakAll, KeepAll}
-use Rattle.lines.specs.declared.Previous.{Previous}
-use Rattle.lines.specs.declared.Previous.TheVariants.{Class, Nothing}
+use Rattle.lines.specs.Previous.{Previous}
 use Rattle.lines.specs.declared.Boundary.{Boundary}
 use Rattle.lines.specs.declared.LineState.{LineState}
 
@@ -30,7 +29,7 @@ width = 44
 
 -- `sot`: "A text starts in row 44 with no class before."
 abbrev pub start_state : LineState
-start_state = record { row = 44; previous = Nothing }
+start_state = record { row = 44; previous = None }
 
 -- a cell: the row that comes next, whether a break is mandatory (0x40), whether one is allowed (0x80)
 abbrev pub row_in : ℕ → ℕ
@@ -55,8 +54,8 @@ abbrev pub kept_together : List ℕ
 kept_together = AI ∷ AL ∷ ID ∷ NU ∷ HY ∷ H2 ∷ H3 ∷ JL ∷ JV ∷ JT ∷ CJ ∷ []
 
 abbrev pub previous_in : List ℕ → Previous → Bool
-previous_in classes (Class c) = member classes c
-previous_in classes Nothing = false
+previous_in classes (Some c) = member classes c
+previous_in classes None = false
 
 -- `left` and `right`
 abbrev pub left_of : LineState → ℕ
@@ -91,7 +90,7 @@ line_answer strength table s class =
 
 -- "Store the original value, not the modified one.": no strength is looked at
 unfoldable pub line_after : List ℕ → LineState → ℕ → LineState
-line_after table s class = record { row = row_in (pair table s.row class); previous = Class class }
+line_after table s class = record { row = row_in (pair table s.row class); previous = Some class }
 
 -- `next`: "the answer is the line answer, and word where that is none and the word machine answers 1" (SCOPE 12.1)
 abbrev pub or_word : Boundary → ℕ → Boundary

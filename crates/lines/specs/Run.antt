@@ -1,12 +1,11 @@
 -- The run of `next` over three columns and a lent table: `check_line` and `check_word` at each record.
-use Rattle.std.specs.Prelude.{ℕ, zero, suc, List, [], ◌∷◌, ◌++◌, ltb, length, drop}
+use Rattle.std.specs.Prelude.{ℕ, zero, suc, List, [], ◌∷◌, ◌++◌, ltb, length, drop, Ok, Err}
 use Rattle.basics.specs.Columns.{cells}
 use Rattle.classes.specs.WordBreak as WordBreak
 use Rattle.records.specs.Text.{cell}
 use Rattle.records.specs.Refusals.{refuse, ◌⊳◌, over, judge_three, judge_lengths}
 use Rattle.records.specs.declared.Side.TheVariants.{Neither}
-use Rattle.records.specs.declared.Verdict.{Verdict}
-use Rattle.records.specs.declared.Verdict.TheVariants.{Accepted, Refused}
+use Rattle.records.specs.Verdict.{Verdict}
 use Rattle.words.specs.Run as Words
 use Rattle.lines.specs.LineBreak as LineBreak
 use Rattle.lines.specs.Rules.{boundary_code, start_state, line_answer, line_after, or_word}
@@ -54,9 +53,9 @@ run_verdict table lines words pictographs cells =
 
 -- cells past the records keep their content, and with a refusal all do
 abbrev pub cells_under : Verdict → Strength → List ℕ → List ℕ → List ℕ → List ℕ → List ℕ → List ℕ
-cells_under Accepted strength table lines words pictographs out =
+cells_under (Ok _) strength table lines words pictographs out =
     answers strength table lines words pictographs (length lines) ++ drop (length lines) out
-cells_under (Refused r) strength table lines words pictographs out = out
+cells_under (Err r) strength table lines words pictographs out = out
 
 abbrev pub run_cells : Strength → List ℕ → List ℕ → List ℕ → List ℕ → List ℕ → List ℕ
 run_cells strength table lines words pictographs out =

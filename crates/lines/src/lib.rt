@@ -18,12 +18,12 @@ ghost use Rattle.lines.specs.NextStep.{next_of};
 ghost use Rattle.lines.specs.Run.{run_verdict, run_cells};
 
 use next::or_word;
-use records::{Side, Verdict, refused};
+use records::{Refusal, judge_room};
 use runs::{check, lay};
-use words::{Next, WordState};
+use words::WordState;
 
 // How strongly words hold together, the Rust's `WordBreakStrength`.
-#[derive(Clone, Copy)]
+#[derive(Clone, Copy, Debug, PartialEq, Eq)]
 pub enum Strength {
     Normal,
     BreakAll,
@@ -31,7 +31,7 @@ pub enum Strength {
 }
 
 // What stands before a record, the Rust's `Boundary`.
-#[derive(Clone, Copy)]
+#[derive(Clone, Copy, Debug, PartialEq, Eq)]
 pub enum Boundary {
     None,
     Word,
@@ -39,49 +39,44 @@ pub enum Boundary {
     Mandatory,
 }
 
-// The class of the record before, or none at the start of the text.
-#[derive(Clone, Copy)]
-pub enum Previous {
-    Class(u8),
-    Nothing,
-}
-
 // What the machine keeps between two records. Every value is allowed, and the step refuses those that its table has not.
-#[derive(Clone, Copy)]
+#[derive(Clone, Copy, Debug, PartialEq, Eq)]
 pub struct LineState {
     pub row: u8,
-    pub previous: Previous,
+    // The class of the record before, or none at the start of the text.
+    pub previous: Option<u8>,
 }
 
 // What a step hands back: the new state, the answer, and the verdict.
-#[derive(Clone, Copy)]
+// With a refusal a step hands back the same state and the answer none, which its contract says (5.4): so the verdict stands beside them, no Result.
+#[derive(Clone, Copy, Debug, PartialEq, Eq)]
 pub struct LineStep {
     pub state: LineState,
     pub answer: Boundary,
-    pub verdict: Verdict,
+    pub verdict: Result<(), Refusal>,
 }
 
 // Both machines, the Rust's `BoundaryState`.
-#[derive(Clone, Copy)]
+#[derive(Clone, Copy, Debug, PartialEq, Eq)]
 pub struct BoundaryState {
     pub line: LineState,
     pub word: WordState,
 }
 
-// What a step of `next` hands back.
-#[derive(Clone, Copy)]
+// What a step of `next` hands back: a refusal leaves the state and the answer as `LineStep` has it.
+#[derive(Clone, Copy, Debug, PartialEq, Eq)]
 pub struct BoundaryStep {
     pub state: BoundaryState,
     pub answer: Boundary,
-    pub verdict: Verdict,
+    pub verdict: Result<(), Refusal>,
 }
 
-impl Strength {
-    // The number by which a caller asks for the strength.
-    pub fn code(self) -> u8
-        ensures { result ≡ strength_code self }
-    {
-        match self {
+// The number by which a caller asks for the strength.
+impl From<Strength> for u8 {
+    ghost from_gives = { λ strength code. code ≡ strength_code strength };
+
+    fn from(strength: Strength) -> u8 {
+        match strength {
             Strength::Normal => 0,
             Strength::BreakAll => 1,
             Strength::KeepAll => 2,
@@ -89,12 +84,12 @@ impl Strength {
     }
 }
 
-impl Boundary {
-    // The number that a run writes for the boundary.
-    pub fn code(self) -> u8
-        ensures { result ≡ boundary_code self }
-    {
-        match self {
+// The number that a run writes for the boundary.
+impl From<Boundary> for u8 {
+    ghost from_gives = { λ boundary code. code ≡ boundary_code boundary };
+
+    fn from(boundary: Boundary) -> u8 {
+        match boundary {
             Boundary::None => 0,
             Boundary::Word => 1,
             Boundary::Line => 2,
@@ -106,7 +101,7 @@ impl Boundary {
 impl LineState {
     pub const START: LineState = LineState {
         row: 44,
-        previous: Previous::Nothing,
+        previous: None,
     };
 
     // `START` is the start state of the definitions.
@@ -120,34 +115,25 @@ impl LineState {
     pub fn step(self, table: &[u8], strength: Strength, class: u8) -> LineStep
         ensures { result ≡ step_of strength table.now self class }
     {
-        let verdict = self.judge(table, class);
-        let Verdict::Accepted = verdict else {
-            return LineStep {
+        match self.judge(table, class) {
+            Ok(()) => LineStep {
+                state: self.after(table, class),
+                answer: self.answer(table, strength, class),
+                verdict: Ok(()),
+            },
+            Err(refusal) => LineStep {
                 state: self,
                 answer: Boundary::None,
-                verdict,
-            };
-        };
-        LineStep {
-            state: self.after(table, class),
-            answer: self.answer(table, strength, class),
-            verdict,
+                verdict: Err(refusal),
+            },
         }
     }
 }
 
 impl BoundaryState {
     pub const START: BoundaryState = BoundaryState {
-        line: LineState {
-            row: 44,
-            previous: Previous::Nothing,
-        },
-        word: WordState {
-            first: true,
-            previous: 0,
-            prevent: false,
-            count: 0,
-        },
+        line: LineState::START,
+        word: WordState::START,
     };
 
     // `START` is the start state of the definitions.
@@ -166,33 +152,32 @@ impl BoundaryState {
         line: u8,
         word: u8,
         pictograph: u8,
-        next: Next,
+        next: Option<u8>,
     ) -> BoundaryStep
         ensures { result ≡ next_of strength table.now self line word pictograph next }
     {
-        let verdict = self.judge(table, line, word, pictograph, next);
-        let Verdict::Accepted = verdict else {
-            return BoundaryStep {
+        match self.judge(table, line, word, pictograph, next) {
+            Ok(()) => {
+                let word = self.word.step(word, pictograph, next);
+                BoundaryStep {
+                    state: BoundaryState {
+                        line: self.line.after(table, line),
+                        word: word.state,
+                    },
+                    answer: or_word(self.line.answer(table, strength, line), word.answer),
+                    verdict: Ok(()),
+                }
+            }
+            Err(refusal) => BoundaryStep {
                 state: self,
                 answer: Boundary::None,
-                verdict,
-            };
-        };
-        let before = self.line;
-        let counted = self.word;
-        let step = counted.step(word, pictograph, next);
-        let after = step.state;
-        BoundaryStep {
-            state: BoundaryState {
-                line: before.after(table, line),
-                word: after,
+                verdict: Err(refusal),
             },
-            answer: or_word(before.answer(table, strength, line), step.answer),
-            verdict,
         }
     }
 }
 
+#[tactic(auto, unfolding(crate::specs::Run::run_verdict))]
 // The answers to a whole text, one cell a record: 0 none, 1 word, 2 line, 3 mandatory.
 pub fn run(
     table: &[u8],
@@ -201,18 +186,16 @@ pub fn run(
     words: &[u8],
     pictographs: &[u8],
     out: &mut [u8],
-) -> Verdict
+) -> Result<(), Refusal>
     ensures value { result ≡ run_verdict table.now lines.now words.now pictographs.now (length out.old) }
     ensures out_after { out.new ≡ run_cells strength table.now lines.now words.now pictographs.now out.old }
 {
-    let checked = check(table, lines, words, pictographs);
-    let Verdict::Accepted = checked else {
-        return checked;
-    };
-    if out.len() < lines.len() {
-        return refused(9, Side::Neither, 0);
-    }
-    words::run(words, pictographs, out);
+    judge_room(
+        check(table, lines, words, pictographs),
+        lines.len(),
+        out.len(),
+    )?;
+    words::run(words, pictographs, out)?;
     lay(table, strength, lines, out);
-    Verdict::Accepted
+    Ok(())
 }

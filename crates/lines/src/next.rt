@@ -1,4 +1,6 @@
 // The step of `next`: its refusals, and the two answers as one.
+#![tactic(auto, unfolding(crate::specs::NextStep::next_verdict))]
+
 ghost use Rattle.std.specs.Prelude.{◌≡◌};
 ghost use Rattle.lines.specs.Rules.{or_word};
 ghost use Rattle.lines.specs.NextStep.{bad_record, bad_states, next_verdict};
@@ -6,17 +8,14 @@ ghost use Rattle.lines.specs.NextStep.{bad_record, bad_states, next_verdict};
 use crate::judge::judge_step;
 use crate::{Boundary, BoundaryState, line_break};
 use classes::word_break;
-use records::{Verdict, is_bad_three};
-use words::Next;
+use records::{Refusal, is_bad_three};
+use words::is_bad_next;
 
 // A class or a mark outside its list, of the record or of the next one.
-fn is_bad_step(line: u8, word: u8, pictograph: u8, next: Next) -> bool
+fn is_bad_step(line: u8, word: u8, pictograph: u8, next: Option<u8>) -> bool
     ensures { result ≡ bad_record line word pictograph next }
 {
-    if is_bad_three(line_break::LEN, word_break::LEN, line, word, pictograph) {
-        return true;
-    }
-    next.is_outside()
+    is_bad_three(line_break::LEN, word_break::LEN, line, word, pictograph) || is_bad_next(next)
 }
 
 // The line answer, and word where that is none and the word machine's answer is 1.
@@ -24,15 +23,8 @@ pub(crate) fn or_word(line: Boundary, word: u8) -> Boundary
     ensures { result ≡ or_word line word }
 {
     match line {
-        Boundary::None => {
-            if word == 1 {
-                return Boundary::Word;
-            }
-            Boundary::None
-        }
-        Boundary::Word => Boundary::Word,
-        Boundary::Line => Boundary::Line,
-        Boundary::Mandatory => Boundary::Mandatory,
+        Boundary::None if word == 1 => Boundary::Word,
+        _ => line,
     }
 }
 
@@ -40,12 +32,7 @@ impl BoundaryState {
     fn is_bad(self, table: &[u8]) -> bool
         ensures { result ≡ bad_states table.now self }
     {
-        let line = self.line;
-        if line.is_bad(table) {
-            return true;
-        }
-        let word = self.word;
-        word.is_bad()
+        self.line.is_bad(table) || self.word.is_bad()
     }
 
     pub(crate) fn judge(
@@ -54,8 +41,8 @@ impl BoundaryState {
         line: u8,
         word: u8,
         pictograph: u8,
-        next: Next,
-    ) -> Verdict
+        next: Option<u8>,
+    ) -> Result<(), Refusal>
         ensures { result ≡ next_verdict table.now self line word pictograph next }
     {
         judge_step(

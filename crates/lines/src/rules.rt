@@ -1,4 +1,6 @@
 // `check_line`, piece by piece.
+#![tactic(auto, unfolding(crate::specs::Rules::line_answer, crate::specs::Rules::line_after))]
+
 ghost use Rattle.std.specs.Prelude.{◌≡◌, [], ◌∷◌};
 ghost use Rattle.basics.specs.Sets.{member};
 ghost use Rattle.lines.specs.LineBreak as LineBreak;
@@ -6,8 +8,8 @@ ghost use Rattle.lines.specs.Rules;
 ghost use Rattle.lines.specs.Rules.{as_ideographs, kept_together, previous_in, left_of, right_of, is_mandatory, is_allowed, line_answer, line_after};
 
 use crate::line_break::*;
-use crate::{Boundary, LineState, Previous, Strength};
-use records::cells::cell8;
+use crate::{Boundary, LineState, Strength};
+use records::cells::cell;
 
 // How many cells a row has: one for each line class, and one for the end of the text.
 pub(crate) const WIDTH: usize = 44;
@@ -16,7 +18,7 @@ pub(crate) const WIDTH: usize = 44;
 fn pair(table: &[u8], row: u8, class: u8) -> u8
     ensures { result ≡ Rules.pair table.now row class }
 {
-    cell8(table, row as usize * WIDTH + class as usize)
+    cell(table, usize::from(row) * WIDTH + usize::from(class), 0)
 }
 
 fn is_mandatory(v: u8) -> bool
@@ -35,115 +37,44 @@ fn is_allowed(v: u8) -> bool
 fn is_as_ideograph(class: u8) -> bool
     ensures { result ≡ member as_ideographs class }
 {
-    if class == AL {
-        return true;
-    }
-    if class == NU {
-        return true;
-    }
-    class == SA
+    matches!(class, AL | NU | SA)
 }
 
 // The classes that KeepAll keeps together.
 fn is_kept_together(class: u8) -> bool
     ensures { result ≡ member kept_together class }
 {
-    if class == AI {
-        return true;
-    }
-    if class == AL {
-        return true;
-    }
-    if class == ID {
-        return true;
-    }
-    if class == NU {
-        return true;
-    }
-    if class == HY {
-        return true;
-    }
-    if class == H2 {
-        return true;
-    }
-    if class == H3 {
-        return true;
-    }
-    if class == JL {
-        return true;
-    }
-    if class == JV {
-        return true;
-    }
-    if class == JT {
-        return true;
-    }
-    class == CJ
-}
-
-impl Previous {
-    fn is_as_ideograph(self) -> bool
-        ensures { result ≡ previous_in as_ideographs self }
-    {
-        match self {
-            Previous::Class(class) => is_as_ideograph(class),
-            Previous::Nothing => false,
-        }
-    }
-
-    fn is_kept_together(self) -> bool
-        ensures { result ≡ previous_in kept_together self }
-    {
-        match self {
-            Previous::Class(class) => is_kept_together(class),
-            Previous::Nothing => false,
-        }
-    }
-
-    fn is_zwj(self) -> bool
-        ensures { result ≡ previous_in (LineBreak.ZWJ ∷ []) self }
-    {
-        match self {
-            Previous::Class(class) => class == ZWJ,
-            Previous::Nothing => false,
-        }
-    }
+    matches!(class, AI | AL | ID | NU | HY | H2 | H3 | JL | JV | JT | CJ)
 }
 
 fn right(class: u8) -> u8
     ensures { result ≡ right_of class }
 {
-    if is_as_ideograph(class) {
-        return ID;
-    }
-    class
+    if is_as_ideograph(class) { ID } else { class }
 }
 
 // What the cell that is asked says.
-fn told(v: u8, previous: Previous) -> Boundary
+fn told(v: u8, previous: Option<u8>) -> Boundary
     ensures { result ≡ Rules.told v previous }
 {
     if is_mandatory(v) {
-        return Boundary::Mandatory;
+        Boundary::Mandatory
+    } else if is_allowed(v) && previous != Some(ZWJ) {
+        Boundary::Line
+    } else {
+        Boundary::None
     }
-    if is_allowed(v) {
-        if previous.is_zwj() {
-            return Boundary::None;
-        }
-        return Boundary::Line;
-    }
-    Boundary::None
 }
 
 impl LineState {
     fn left(self) -> u8
         ensures { result ≡ left_of self }
     {
-        let previous = self.previous;
-        if previous.is_as_ideograph() {
-            return ID;
+        if self.previous.is_some_and(is_as_ideograph) {
+            ID
+        } else {
+            self.row
         }
-        self.row
     }
 
     // The cell that is asked: BreakAll takes another one.
@@ -151,9 +82,8 @@ impl LineState {
         ensures { result ≡ Rules.asked strength table.now self class }
     {
         match strength {
-            Strength::Normal => pair(table, self.row, class),
             Strength::BreakAll => pair(table, self.left(), right(class)),
-            Strength::KeepAll => pair(table, self.row, class),
+            Strength::Normal | Strength::KeepAll => pair(table, self.row, class),
         }
     }
 
@@ -161,27 +91,19 @@ impl LineState {
     fn keeps(self, strength: Strength, class: u8) -> bool
         ensures { result ≡ Rules.keeps strength self class }
     {
-        match strength {
-            Strength::Normal => false,
-            Strength::BreakAll => false,
-            Strength::KeepAll => {
-                let previous = self.previous;
-                if previous.is_kept_together() {
-                    return is_kept_together(class);
-                }
-                false
-            }
-        }
+        matches!(strength, Strength::KeepAll)
+            && self.previous.is_some_and(is_kept_together)
+            && is_kept_together(class)
     }
 
     pub(crate) fn answer(self, table: &[u8], strength: Strength, class: u8) -> Boundary
         ensures { result ≡ line_answer strength table.now self class }
     {
         if self.keeps(strength, class) {
-            return Boundary::None;
+            Boundary::None
+        } else {
+            told(self.asked(table, strength, class), self.previous)
         }
-        let previous = self.previous;
-        told(self.asked(table, strength, class), previous)
     }
 
     // What is stored is of the unmodified pair: no strength comes here.
@@ -190,7 +112,7 @@ impl LineState {
     {
         LineState {
             row: pair(table, self.row, class) % 64,
-            previous: Previous::Class(class),
+            previous: Some(class),
         }
     }
 }

@@ -7,16 +7,18 @@ ghost use Rattle.lines.specs.Inner.{merged, laid_at};
 use crate::judge::is_bad_table;
 use crate::{LineState, Strength, line_break};
 use classes::word_break;
-use records::cells::cell8;
-use records::{Side, Verdict, judge_codes, judge_columns, refused};
+use records::{Refusal, Side, judge_codes, judge_columns, refused};
 
-pub(crate) fn check(table: &[u8], lines: &[u8], words: &[u8], pictographs: &[u8]) -> Verdict
+#[tactic(auto, unfolding(crate::specs::Run::check_verdict))]
+pub(crate) fn check(
+    table: &[u8],
+    lines: &[u8],
+    words: &[u8],
+    pictographs: &[u8],
+) -> Result<(), Refusal>
     ensures { result ≡ check_verdict table.now lines.now words.now pictographs.now }
 {
-    let shape = judge_columns(lines.len(), words.len(), pictographs.len());
-    let Verdict::Accepted = shape else {
-        return shape;
-    };
+    judge_columns(lines.len(), words.len(), pictographs.len())?;
     if is_bad_table(table) {
         return refused(10, Side::Neither, 0);
     }
@@ -34,14 +36,12 @@ pub(crate) fn lay(table: &[u8], strength: Strength, lines: &[u8], out: &mut [u8]
     requires { length lines.now ≤ length out.old }
     ensures { out.new ≡ cells (laid_at strength table.now lines.now out.old) (length lines.now) ++ drop (length lines.now) out.old }
 {
-    let mut state = LineState::start();
-    let mut i: usize = 0;
-    while i < lines.len() {
-        let class = cell8(lines, i);
+    let mut state = LineState::START;
+    for i in 0..lines.len() {
+        let class = lines[i];
         let answer = state.answer(table, strength, class);
         // before the store, so that the table's cell is read once
         state = state.after(table, class);
-        out[i] = merge(answer.code(), out[i]);
-        i += 1;
+        out[i] = merge(u8::from(answer), out[i]);
     }
 }

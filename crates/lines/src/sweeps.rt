@@ -2,19 +2,6 @@
 ghost use Rattle.std.specs.Prelude.{◌≡◌, ◌||◌, ◌<◌, ◌%◌, leb, length};
 ghost use Rattle.basics.specs.Sets.{any};
 ghost use Rattle.lines.specs.Rules.{row_in};
-ghost use Rattle.lines.specs.Inner;
-
-fn larger(a: u8, b: u8) -> u8
-    ensures { result ≡ Inner.larger a b }
-{
-    if a < b { b } else { a }
-}
-
-fn reaches(most: u8, limit: usize) -> bool
-    ensures { result ≡ leb limit most }
-{
-    limit <= most as usize
-}
 
 // Whether a cell of two columns of one length names a row that the table has not. Two at a time: the greatest value waits for the one
 // before, so that two halves take half the time of the whole.
@@ -24,13 +11,11 @@ fn either_names(first: &[u8], second: &[u8], rows: usize) -> bool
 {
     let mut one: u8 = 0;
     let mut two: u8 = 0;
-    let mut i: usize = 0;
-    while i < first.len() {
-        one = larger(one, first[i] % 64);
-        two = larger(two, second[i] % 64);
-        i += 1;
+    for i in 0..first.len() {
+        one = one.max(first[i] % 64);
+        two = two.max(second[i] % 64);
     }
-    reaches(larger(one, two), rows)
+    rows <= usize::from(one.max(two))
 }
 
 // Whether a cell names a row that the table has not.

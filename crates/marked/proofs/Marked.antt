@@ -1,5 +1,6 @@
 -- "One statement over one table says that the definitions give them all" (SCOPE 9.1). The checker computes both sides.
 -- Assumes nothing.
+use Rattle.std.specs.Prelude.{Ok}
 use Prim.Native.Nat.{ℕ}
 use mathlib.Core.Path.{◌≡◌, refl, sym, ◌∙◌, ap}
 use mathlib.Core.List.{List, [], ◌∷◌, ◌++◌, map}
@@ -12,7 +13,6 @@ use Rattle.records.specs.Text.{Text}
 use Rattle.records.specs.Refusals as Refusals
 use Rattle.records.specs.declared.Parser.{Parser}
 use Rattle.records.specs.declared.Parser.TheVariants.{Simple, Myanmar, Complex, Khmer}
-use Rattle.records.specs.declared.Verdict.TheVariants.{Accepted}
 use Rattle.stream.specs.Stream as Tokens
 use Rattle.parse.specs.State as State
 use Rattle.parse.specs.Rule as Rule
@@ -31,7 +31,7 @@ use Rattle.marked.specs.Readings.{readings}
 -- an accepted text of two tokens, of which the first call takes one
 abbrev Parted : Parser → Mode → Type 0
 Parted parser mode =
-    (Refusals.verdict parser (pair parser) ≡ Accepted)
+    (Refusals.verdict parser (pair parser) ≡ Ok tt)
     × (length (Tokens.stream_of mode parser (pair parser)) ≡ 2)
     × ((Calls.next_of (standing parser mode 0) (pair parser)).state.place.at ≡ 1)
 
@@ -67,7 +67,7 @@ read = (refl, ap first computed.0)
 
 -- Ruled out is "one whose first call swallows the text and whose others find nothing" (SCOPE 10): it does not meet the stepping call's
 -- contract, for each parser and mode.
-pub takes_text : (f : Segmenter → Text → Answer) → ((s : Segmenter) (t : Text) → f s t ≡ Calls.next_of s t) → (parser : Parser) (mode : Mode) → ((t : Text) → Refusals.verdict parser t ≡ Accepted → (f (standing parser mode 0) t).state.place.at ≡ length (Tokens.stream_of mode parser t)) → ⊥
+pub takes_text : (f : Segmenter → Text → Answer) → ((s : Segmenter) (t : Text) → f s t ≡ Calls.next_of s t) → (parser : Parser) (mode : Mode) → ((t : Text) → Refusals.verdict parser t ≡ Ok tt → (f (standing parser mode 0) t).state.place.at ≡ length (Tokens.stream_of mode parser t)) → ⊥
 takes_text f meets parser mode h =
     let (accepted, two, one) = computed.1 parser mode in
     let e = sym one ∙ sym (ap (λ (a : Answer). a.state.place.at) (meets (standing parser mode 0) (pair parser))) ∙ h (pair parser) accepted ∙ two in

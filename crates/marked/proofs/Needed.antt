@@ -1,6 +1,7 @@
 -- Refusal 6 is needed (SCOPE 6.6): the texts on which, without it, going on behind the first CMAbv or CMBlw run would push more
 -- (complex: `needed`) are texts that it refuses. The checker computes both sides.
 -- Assumes nothing.
+use Rattle.std.specs.Prelude.{Err}
 use Prim.Native.Nat.{ℕ}
 use mathlib.Core.Path.{◌≡◌, refl}
 use mathlib.Core.List.{[], ◌∷◌, map}
@@ -12,7 +13,6 @@ use Rattle.records.specs.Refusals as Refusals
 use Rattle.records.specs.declared.Parser.{Parser}
 use Rattle.records.specs.declared.Parser.TheVariants.{Complex, Khmer}
 use Rattle.records.specs.declared.Side.TheVariants.{Record}
-use Rattle.records.specs.declared.Verdict.TheVariants.{Refused}
 use Rattle.stream.specs.Stream as Tokens
 use Rattle.complex.specs.Ignored.{barred_text}
 use Rattle.marked.specs.Cases.{character, text_for}
@@ -24,7 +24,7 @@ joined parser kind class = text_for parser (character 0x1780 B ∷ character 0x1
 -- for each class that refusal 6 bars, the text is refused at its U+034F, and its tokens are those of `needed`
 abbrev Barred : Parser → ℕ → Type 0
 Barred parser kind =
-    (map (λ class. Refusals.verdict parser (joined parser kind class)) Refusals.barred_classes ≡ map (λ _. Refused (Refusals.refusal 6 Record 2)) Refusals.barred_classes)
+    (map (λ class. Refusals.verdict parser (joined parser kind class)) Refusals.barred_classes ≡ map (λ _. Err (Refusals.refusal 6 Record 2)) Refusals.barred_classes)
     × (map (λ class. Tokens.stream_of Crate parser (joined parser kind class)) Refusals.barred_classes ≡ map (barred_text kind) Refusals.barred_classes)
 
 pub barred : (Barred Complex CMAbv × Barred Complex CMBlw) × (Barred Khmer CMAbv × Barred Khmer CMBlw)

@@ -8,7 +8,9 @@ mod runs;
 mod texts;
 
 use classes::Mode;
+use clusters::{p01, p02, p03, p04, p05, p06, p07, p08, p09, p10, p11, p12, p13};
 use console::{decimal, write};
+use runs::{p14, p15, p16};
 
 fn line(number: u64, good: bool) {
     write(b"P");
@@ -16,41 +18,31 @@ fn line(number: u64, good: bool) {
         write(b"0");
     }
     decimal(number);
-    if good {
-        write(b" ok\n");
-    } else {
-        write(b" fails\n");
-    }
+    write(if good { b" ok\n" } else { b" fails\n" });
 }
 
 // Both modes have to answer what the case tells.
-fn both(number: u64, crate_mode: bool, whole_mode: bool) {
-    line(number, if crate_mode { whole_mode } else { false });
-}
-
-fn simple_cases() {
-    both(1, clusters::p01(Mode::Crate), clusters::p01(Mode::Whole));
-    both(2, clusters::p02(Mode::Crate), clusters::p02(Mode::Whole));
-    both(3, clusters::p03(Mode::Crate), clusters::p03(Mode::Whole));
-    both(4, clusters::p04(Mode::Crate), clusters::p04(Mode::Whole));
-    both(5, clusters::p05(Mode::Crate), clusters::p05(Mode::Whole));
-    both(6, clusters::p06(Mode::Crate), clusters::p06(Mode::Whole));
-    both(7, clusters::p07(Mode::Crate), clusters::p07(Mode::Whole));
-    both(8, clusters::p08(Mode::Crate), clusters::p08(Mode::Whole));
-}
-
-fn syllable_cases() {
-    both(9, clusters::p09(Mode::Crate), clusters::p09(Mode::Whole));
-    both(10, clusters::p10(Mode::Crate), clusters::p10(Mode::Whole));
-    both(11, clusters::p11(Mode::Crate), clusters::p11(Mode::Whole));
-    both(12, clusters::p12(Mode::Crate), clusters::p12(Mode::Whole));
-    both(13, clusters::p13(Mode::Crate), clusters::p13(Mode::Whole));
+fn both<F: Fn(Mode) -> bool>(number: u64, answers: F)
+    requires { F.IsAlwaysCallable answers }
+{
+    line(number, answers(Mode::Crate) && answers(Mode::Whole));
 }
 
 fn main() {
-    simple_cases();
-    syllable_cases();
-    line(14, runs::p14());
-    line(15, runs::p15());
-    line(16, runs::p16());
+    both(1, p01);
+    both(2, p02);
+    both(3, p03);
+    both(4, p04);
+    both(5, p05);
+    both(6, p06);
+    both(7, p07);
+    both(8, p08);
+    both(9, p09);
+    both(10, p10);
+    both(11, p11);
+    both(12, p12);
+    both(13, p13);
+    line(14, p14());
+    line(15, p15());
+    line(16, p16());
 }

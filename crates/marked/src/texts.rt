@@ -1,7 +1,7 @@
-// The text of a case as 18 lent columns, and one stepping call on it.
+// The text of a case as lent columns, and one stepping call on it.
 use classes::{category, cluster_break, myanmar_class, use_class, word_break};
-use records::Parser;
-use records::cells::{first8, first16, first32};
+use records::cells::first;
+use records::{Columns, Parser};
 use segment::{Answer, Segmenter};
 
 // What a case says of a record: its scalar, its class for the parser of the case, whether it is an emoji, its count of parts.
@@ -22,136 +22,51 @@ pub(crate) fn of_class(scalar: u32, class: u8) -> Character {
     }
 }
 
-// Records of a case, at most 32: three of their own, and all later ones are the fourth. `part` is the one part of the text, lent
-// where a record has parts.
+// Records of a case, at most 32. `part` is the one part of the text, lent where a record has parts.
 #[derive(Clone, Copy)]
 pub(crate) struct Text {
     pub parser: Parser,
+    pub records: [Character; 32],
     pub len: usize,
-    pub a: Character,
-    pub b: Character,
-    pub c: Character,
-    pub d: Character,
     pub part: Character,
 }
 
-fn column32(a: u32, b: u32, c: u32, d: u32) -> [u32; 32] {
-    let mut column = [d; 32];
-    column[0] = a;
-    column[1] = b;
-    column[2] = c;
-    column
-}
-
-fn column8(a: u8, b: u8, c: u8, d: u8) -> [u8; 32] {
-    let mut column = [d; 32];
-    column[0] = a;
-    column[1] = b;
-    column[2] = c;
-    column
-}
-
-// A column of classes: the parser's own, or the class that no rule names.
-fn own(is_own: bool, classes: [u8; 32], rest: u8) -> [u8; 32] {
-    if is_own {
-        return classes;
-    }
-    [rest; 32]
-}
-
-fn is_simple(parser: Parser) -> bool {
-    match parser {
-        Parser::Simple => true,
-        Parser::Myanmar => false,
-        Parser::Complex => false,
-        Parser::Khmer => false,
+impl Text {
+    // A column of classes: the parser's own, or the class that no rule names.
+    fn classes(&self, is_own: bool, rest: u8) -> [u8; 32] {
+        if is_own {
+            self.records.map(|c| c.class)
+        } else {
+            [rest; 32]
+        }
     }
 }
 
-fn is_myanmar(parser: Parser) -> bool {
-    match parser {
-        Parser::Simple => false,
-        Parser::Myanmar => true,
-        Parser::Complex => false,
-        Parser::Khmer => false,
-    }
-}
-
-fn is_complex(parser: Parser) -> bool {
-    match parser {
-        Parser::Simple => false,
-        Parser::Myanmar => false,
-        Parser::Complex => true,
-        Parser::Khmer => true,
-    }
-}
-
-// The first n records and the first m parts; `unmarked` is every column of marks that no case has.
-fn next_of<'a>(
-    s: Segmenter,
-    n: usize,
-    m: usize,
-    scalars: &'a [u32],
-    breaks: &'a [u8],
-    uses: &'a [u8],
-    myanmars: &'a [u8],
-    categories: &'a [u8],
-    words: &'a [u8],
-    semojis: &'a [u8],
-    unmarked: &'a [u8],
-    firsts: &'a [u16],
-    counts: &'a [u8],
-    pscalars: &'a [u32],
-    pbreaks: &'a [u8],
-    puses: &'a [u8],
-    pcategories: &'a [u8],
-) -> Answer {
-    let wides = [first32(scalars, n), first32(pscalars, m)];
-    let bytes = [
-        first8(breaks, n),
-        first8(uses, n),
-        first8(myanmars, n),
-        first8(categories, n),
-        first8(words, n),
-        first8(semojis, n),
-        first8(unmarked, n),
-        first8(unmarked, n),
-        first8(unmarked, n),
-        first8(unmarked, n),
-        first8(unmarked, n),
-        first8(counts, n),
-        first8(pbreaks, m),
-        first8(puses, m),
-        first8(pcategories, m),
-    ];
-    s.next_in(&wides, &bytes, first16(firsts, n))
-}
-
-pub(crate) fn next(s: Segmenter, t: Text) -> Answer {
-    let parser = t.parser;
-    let part = t.part;
-    let a = t.a;
-    let b = t.b;
-    let c = t.c;
-    let d = t.d;
-    let classes = column8(a.class, b.class, c.class, d.class);
-    next_of(
-        s,
-        t.len,
-        part.count as usize,
-        &column32(a.scalar, b.scalar, c.scalar, d.scalar),
-        &own(is_simple(parser), classes, cluster_break::XX),
-        &own(is_complex(parser), classes, use_class::REST),
-        &own(is_myanmar(parser), classes, myanmar_class::REST),
-        &[category::Other; 32],
-        &[word_break::Other; 32],
-        &column8(a.emoji, b.emoji, c.emoji, d.emoji),
-        &[0u8; 32],
-        &[0u16; 32],
-        &column8(a.count, b.count, c.count, d.count),
-        &[part.scalar],
-        &[cluster_break::XX],
-        &[part.class],
-        &[category::Other],
-    )
+pub(crate) fn next(s: Segmenter, t: &Text) -> Answer {
+    let n = t.len;
+    let m = usize::from(t.part.count);
+    let simple = matches!(t.parser, Parser::Simple);
+    let myanmar = matches!(t.parser, Parser::Myanmar);
+    let complex = matches!(t.parser, Parser::Complex | Parser::Khmer);
+    let unmarked = first(&[0; 32], n);
+    s.next(&Columns {
+        scalars: first(&t.records.map(|c| c.scalar), n),
+        breaks: first(&t.classes(simple, cluster_break::XX), n),
+        uses: first(&t.classes(complex, use_class::REST), n),
+        myanmars: first(&t.classes(myanmar, myanmar_class::REST), n),
+        categories: first(&[category::Other; 32], n),
+        words: first(&[word_break::Other; 32], n),
+        semojis: first(&t.records.map(|c| c.emoji), n),
+        memojis: unmarked,
+        cemojis: unmarked,
+        pictographs: unmarked,
+        selectors: unmarked,
+        decomposes: unmarked,
+        firsts: first(&[0; 32], n),
+        counts: first(&t.records.map(|c| c.count), n),
+        pscalars: first(&[t.part.scalar], m),
+        pbreaks: first(&[cluster_break::XX], m),
+        puses: first(&[t.part.class], m),
+        pcategories: first(&[category::Other], m),
+    })
 }

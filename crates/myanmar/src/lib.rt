@@ -1,5 +1,5 @@
 // The Myanmar parser, function by function as src/text/cluster/myanmar.rs. A call of `parse` is begun with `joins` true.
-#![tactic(auto)]
+#![tactic(auto, unfolding(parse::specs::Rule::run, crate::specs::Grammar::accept_with_as, crate::specs::Grammar::stacked, crate::specs::Grammar::post_base_vowel, crate::specs::Grammar::pwo_tone_mark, crate::specs::Grammar::medials, crate::specs::Grammar::vowels, crate::specs::Grammar::kinzi, crate::specs::Grammar::is_kinzi, crate::specs::Grammar::is_alone))]
 
 ghost use Rattle.std.specs.Prelude.{◌≡◌, ◌+◌};
 ghost use Rattle.basics.specs.Sets.{member};
@@ -11,7 +11,6 @@ ghost use Rattle.myanmar.specs.Grammar.{scalar_at, is_kinzi, accept_with_as, sta
 use classes::myanmar_class::*;
 use classes::{Shape, scalar};
 use parse::Parse;
-use parse::state::token_at;
 
 fn accept_with_as(mut s: Parse, text: &[u64], kind: u8) -> Parse
     ensures { result ≡ run (accept_with_as kind) text.now s }
@@ -19,7 +18,6 @@ fn accept_with_as(mut s: Parse, text: &[u64], kind: u8) -> Parse
     if s.kind_is(text, kind) {
         s = s.accept_any_as(text, Shape::Other);
         s = s.accept(text, As);
-        return s;
     }
     s
 }
@@ -28,19 +26,18 @@ fn parse_stacked_consonant_or_vowel(mut s: Parse, text: &[u64]) -> Parse
     ensures { result ≡ run stacked text.now s }
 {
     s = s.accept_any_as(text, Shape::Halant);
-    if s.kind_in2(text, C, IV) {
+    if s.kind_in(text, [C, IV]) {
         s = s.accept_any_as(text, Shape::Base);
         s = s.accept_as(text, VS, Shape::Vs);
-        return s;
+    } else {
+        s = s.stop(text);
     }
-    s = s.stop(text);
     s
 }
 
-fn parse_stacked(s: Parse, text: &[u64]) -> Parse
+fn parse_stacked(mut s: Parse, text: &[u64]) -> Parse
     ensures { result ≡ run (while (is class.H) stacked) text.now s }
 {
-    let mut s = s;
     while s.kind_is(text, H) {
         s = parse_stacked_consonant_or_vowel(s, text);
     }
@@ -59,10 +56,9 @@ fn parse_post_base_vowel(mut s: Parse, text: &[u64]) -> Parse
     s
 }
 
-fn parse_post_base_vowels(s: Parse, text: &[u64]) -> Parse
+fn parse_post_base_vowels(mut s: Parse, text: &[u64]) -> Parse
     ensures { result ≡ run (while (is class.VPst) post_base_vowel) text.now s }
 {
-    let mut s = s;
     while s.kind_is(text, VPst) {
         s = parse_post_base_vowel(s, text);
     }
@@ -76,19 +72,18 @@ fn parse_pwo_tone_mark(mut s: Parse, text: &[u64]) -> Parse
     if s.kind_is(text, As) {
         s = s.accept_any_as(text, Shape::Other);
         s = s.accept_as(text, A, Shape::Anusvara);
-        return s;
+    } else {
+        // "This goes against the spec, but seems to be necessary", says the Rust of the zero or many A.
+        s = s.accept_zero_or_many_as(text, A, Shape::Anusvara);
+        s = s.accept(text, DB);
+        s = s.accept(text, As);
     }
-    // "This goes against the spec, but seems to be necessary", says the Rust of the zero or many A.
-    s = s.accept_zero_or_many_as(text, A, Shape::Anusvara);
-    s = s.accept(text, DB);
-    s = s.accept(text, As);
     s
 }
 
-fn parse_pwo_tone_marks(s: Parse, text: &[u64]) -> Parse
+fn parse_pwo_tone_marks(mut s: Parse, text: &[u64]) -> Parse
     ensures { result ≡ run (while (is class.PT) pwo_tone_mark) text.now s }
 {
-    let mut s = s;
     while s.kind_is(text, PT) {
         s = parse_pwo_tone_mark(s, text);
     }
@@ -105,19 +100,20 @@ fn parse_medials(mut s: Parse, text: &[u64]) -> Parse
         s = s.accept_any_as(text, Shape::Other);
         s = s.accept(text, MH);
         s = s.accept(text, As);
-        return s;
+    } else {
+        s = accept_with_as(s, text, MH);
     }
-    s = accept_with_as(s, text, MH);
     s
 }
 
 fn parse_vowels(s: Parse, text: &[u64]) -> Parse
     ensures { result ≡ run vowels text.now s }
 {
-    let s = s.accept_zero_or_many_as(text, VPre, Shape::VPre);
-    let s = s.accept_zero_or_many(text, VAbv);
-    let s = s.accept_zero_or_many_as(text, VBlw, Shape::VBlw);
-    let s = s.accept_zero_or_many_as(text, A, Shape::Anusvara);
+    let s = s
+        .accept_zero_or_many_as(text, VPre, Shape::VPre)
+        .accept_zero_or_many(text, VAbv)
+        .accept_zero_or_many_as(text, VBlw, Shape::VBlw)
+        .accept_zero_or_many_as(text, A, Shape::Anusvara);
     accept_with_as(s, text, DB)
 }
 
@@ -132,97 +128,65 @@ fn parse_finals(s: Parse, text: &[u64]) -> Parse
 pub fn begins_kinzi(x: u32) -> bool
     ensures { result ≡ member kinzi_firsts x }
 {
-    if x == scalar::NGA {
-        return true;
-    }
-    if x == scalar::RA {
-        return true;
-    }
-    x == scalar::MON_NGA
+    matches!(x, scalar::NGA | scalar::RA | scalar::MON_NGA)
 }
 
 // The scalar k tokens on from a place, for the look-ahead.
 fn scalar_on(text: &[u64], i: usize, k: usize) -> u32
     ensures { result ≡ scalar_at text.now (i + k) }
 {
-    if i < text.len() {
-        if k < text.len() - i {
-            return token::scalar(text[i + k]);
-        }
+    if i < text.len() && k < text.len() - i {
+        token::scalar(text[i + k])
+    } else {
+        0
     }
-    0
 }
 
 fn kinzi_at(text: &[u64], i: usize) -> bool
     ensures { result ≡ is_kinzi text.now i }
 {
-    if begins_kinzi(token::scalar(token_at(text, i))) {
-        if scalar_on(text, i, 1) == scalar::ASAT {
-            return scalar_on(text, i, 2) == scalar::VIRAMA;
-        }
-    }
-    false
+    begins_kinzi(scalar_on(text, i, 0))
+        && scalar_on(text, i, 1) == scalar::ASAT
+        && scalar_on(text, i, 2) == scalar::VIRAMA
 }
 
 fn is_kinzi(s: Parse, text: &[u64]) -> bool
     ensures { result ≡ holds text.now is_kinzi s }
 {
-    let at = s.at;
-    if s.going() {
-        return kinzi_at(text, at);
-    }
-    false
+    s.going() && kinzi_at(text, s.at)
 }
 
-fn parse_kinzi(mut s: Parse, text: &[u64]) -> Parse
+fn parse_kinzi(s: Parse, text: &[u64]) -> Parse
     ensures { result ≡ run kinzi text.now s }
 {
     if is_kinzi(s, text) {
-        s = s.thrice(text, Shape::Kinzi);
-        return s;
+        s.thrice(text, Shape::Kinzi)
+    } else {
+        s
     }
-    s
 }
 
 fn parse_syllable(mut s: Parse, text: &[u64]) -> Parse
     ensures { result ≡ run syllable text.now s }
 {
-    if s.kind_in4(text, C, IV, D, DB) {
+    if s.kind_in(text, [C, IV, D, DB]) {
         s = s.accept_any_as(text, Shape::Base);
         s = s.accept_as(text, VS, Shape::Vs);
         s = parse_stacked(s, text);
         s = parse_medials(s, text);
         s = parse_vowels(s, text);
         s = parse_finals(s, text);
-        return s;
+    } else {
+        s = s.set_broken(text);
+        s = s.accept_any_as(text, Shape::Other);
     }
-    s = s.set_broken(text);
-    s = s.accept_any_as(text, Shape::Other);
     s
-}
-
-fn is_alone_class(k: u8) -> bool
-    ensures { result ≡ member alone k }
-{
-    if k == P {
-        return true;
-    }
-    if k == S {
-        return true;
-    }
-    if k == R {
-        return true;
-    }
-    if k == WJ {
-        return true;
-    }
-    k == D0
 }
 
 fn is_alone(s: Parse, text: &[u64]) -> bool
     ensures { result ≡ holds text.now is_alone s }
 {
-    is_alone_class(s.kind(text))
+    s.kind_in(text, [P, S, R, WJ, D0])
 }
 
 pub fn parse(mut s: Parse, text: &[u64]) -> Parse
@@ -230,17 +194,13 @@ pub fn parse(mut s: Parse, text: &[u64]) -> Parse
 {
     if s.emoji(text) {
         s = s.parse_emoji(text);
-        return s;
-    }
-    if s.kind_is(text, O) {
+    } else if s.kind_is(text, O) {
         s = s.parse_other(text);
-        return s;
-    }
-    if is_alone(s, text) {
+    } else if is_alone(s, text) {
         s = s.accept_any_as(text, Shape::Other);
-        return s;
+    } else {
+        s = parse_kinzi(s, text);
+        s = parse_syllable(s, text);
     }
-    s = parse_kinzi(s, text);
-    s = parse_syllable(s, text);
     s
 }

@@ -1,4 +1,5 @@
 -- An accepted text with one more record: it is accepted, it extends the text, and its stream is one token longer. Assumes nothing.
+use Rattle.std.specs.Prelude.{Ok}
 use Prim.Native.Nat.{ℕ, zero, suc, ◌+◌, ◌-◌, ◌<◌, ◌≤◌}
 use mathlib.Core.Path.{◌≡◌, refl, sym, ◌∙◌, ap, subst}
 use mathlib.Core.Bool.{true, false, not, false≢true}
@@ -19,7 +20,6 @@ use Rattle.records.specs.Refusals.{verdict, bad_sign, is_khmer, too_long, uneven
 use Rattle.records.specs.Sound.{Sound, SoundRow}
 use Rattle.records.specs.declared.Parser.{Parser}
 use Rattle.records.specs.declared.Parser.TheVariants.{Simple, Myanmar, Complex, Khmer}
-use Rattle.records.specs.declared.Verdict.TheVariants.{Accepted}
 use Rattle.records.proofs.Accepted.{accepted_sound, sound_accepted}
 use Rattle.token.specs.Token.{index_of, packed}
 use Rattle.stream.specs.Stream.{itself, split, gather, gives, stream_of}
@@ -65,7 +65,7 @@ row_gives mode Myanmar t i r e d k = ap (λ (r : Row). token_for Myanmar r i ∷
 row_gives mode Complex t i r e d k = rw (ap (λ (r : Row). eqb r.decompose 1) e ∙ d) (ap (λ (r : Row). token_for Complex r i ∷ []) e)
 row_gives mode Khmer t i r e d k = rw (ap (λ (r : Row). eqb r.decompose 1) e ∙ d, ap (λ (r : Row). member khmer_signs r.scalar) e ∙ k) (ap (λ (r : Row). token_for Khmer r i ∷ []) e)
 
-module _ (parser : Parser) (t : Text) (r : Row) (accepted : verdict parser t ≡ Accepted) (room : length t.records.scalars < 4096)
+module _ (parser : Parser) (t : Text) (r : Row) (accepted : verdict parser t ≡ Ok tt) (room : length t.records.scalars < 4096)
     (sound : SoundRow parser (length t.parts.pscalars) r)
     (sign : is_khmer parser ≡ true → bad_sign r.decompose r.scalar r.count (cell t.parts.pscalars r.first) ≡ false) where
   abbrev n : ℕ
@@ -182,7 +182,7 @@ module _ (parser : Parser) (t : Text) (r : Row) (accepted : verdict parser t ≡
       ∙ ap (λ (m : ℕ). stream_of mode parser t ++ gather (gives mode parser more) n m) one
       ∙ ap (λ ts. stream_of mode parser t ++ ts) (append-nil (gives mode parser more n) ∙ row_gives mode parser more n r row_new d k)
 
-  pub more_accepted : verdict parser more ≡ Accepted
+  pub more_accepted : verdict parser more ≡ Ok tt
   more_accepted = sound_accepted parser more more_sound
 
 -- every token is of one of the records

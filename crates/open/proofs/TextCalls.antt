@@ -1,4 +1,5 @@
 -- The theorems of Req 09 on texts: an accepted text that grows by accepted texts to a closed one. Assumes nothing.
+use Rattle.std.specs.Prelude.{Ok}
 use Prim.Native.Nat.{ℕ, suc, ◌+◌, ◌<◌, ◌≤◌}
 use mathlib.Core.Path.{◌≡◌, refl, sym, ◌∙◌, ap}
 use mathlib.Core.Bool.{false}
@@ -10,7 +11,6 @@ use Rattle.classes.specs.declared.Mode.{Mode}
 use Rattle.records.specs.Text.{Text}
 use Rattle.records.specs.Refusals.{verdict}
 use Rattle.records.specs.declared.Parser.{Parser}
-use Rattle.records.specs.declared.Verdict.TheVariants.{Accepted}
 use Rattle.records.proofs.Accepted.{accepted_sound}
 use Rattle.stream.specs.Stream.{stream_of}
 use Rattle.stream.proofs.Accepted.{stream_room}
@@ -29,7 +29,7 @@ module _ (parser : Parser) (mode : Mode) where
   abbrev stream : Text → List ℕ
   stream t = stream_of mode parser t
 
-  closed_grows : (t : Text) (later : List Text) → verdict parser t ≡ Accepted → Grows parser t later → (more : List ℕ) × (stream (closed t later) ≡ stream t ++ more)
+  closed_grows : (t : Text) (later : List Text) → verdict parser t ≡ Ok tt → Grows parser t later → (more : List ℕ) × (stream (closed t later) ≡ stream t ++ more)
   unfolding Grows closed
   closed_grows t [] a g = ([], sym (append-nil (stream t)))
   closed_grows t (t' ∷ later) a g =
@@ -37,17 +37,17 @@ module _ (parser : Parser) (mode : Mode) where
       let y = closed_grows t' later g.1.0 g.1.1 in
       (x.0 ++ y.0, y.1 ∙ ap (λ s. s ++ y.0) x.1 ∙ append_assoc (stream t) x.0 y.0)
 
-  closed_accepted : (t : Text) (later : List Text) → verdict parser t ≡ Accepted → Grows parser t later → verdict parser (closed t later) ≡ Accepted
+  closed_accepted : (t : Text) (later : List Text) → verdict parser t ≡ Ok tt → Grows parser t later → verdict parser (closed t later) ≡ Ok tt
   unfolding Grows closed
   closed_accepted t [] a g = a
   closed_accepted t (t' ∷ later) a g = closed_accepted t' later g.1.0 g.1.1
 
-  short : (t : Text) → verdict parser t ≡ Accepted → length (stream t) ≤ 65535
+  short : (t : Text) → verdict parser t ≡ Ok tt → length (stream t) ≤ 65535
   short t a = omega (arith, stream_room mode parser t (accepted_sound parser t a))
 
   -- **"For every way of extending accepted columns to an accepted closed text, the answers put together equal those of the closed text at
   -- once"**, for full runs from any place.
-  pub texts_whole : (t : Text) (later : List Text) (at : ℕ) → verdict parser t ≡ Accepted → Grows parser t later → at ≤ length (stream t) → text_pieces parser mode t later at ≡ calls_at parser mode (stream (closed t later)) at
+  pub texts_whole : (t : Text) (later : List Text) (at : ℕ) → verdict parser t ≡ Ok tt → Grows parser t later → at ≤ length (stream t) → text_pieces parser mode t later at ≡ calls_at parser mode (stream (closed t later)) at
   unfolding Grows closed text_pieces
   texts_whole t [] at a g l = refl
   texts_whole t (t' ∷ later) at a g l =
@@ -65,7 +65,7 @@ unfolding answer_in
 answer_found s stream h = rw (le-ltb (length stream) s.place.at (omega arith), ne_eqb s.place.at (length stream) (λ e. omega arith))
 
 -- and for stepping calls: **"else it answers as before"**, and so on every accepted text that extends this one
-pub next_grows : (s : Segmenter) (t t' : Text) → verdict s.parser t ≡ Accepted → verdict s.parser t' ≡ Accepted → Extends t t' → s.place.at < length (stream_of s.mode s.parser t)
+pub next_grows : (s : Segmenter) (t t' : Text) → verdict s.parser t ≡ Ok tt → verdict s.parser t' ≡ Ok tt → Extends t t' → s.place.at < length (stream_of s.mode s.parser t)
     → wants s.parser s.mode (stream_of s.mode s.parser t) s.place.at ≡ false → next_of s t' ≡ next_of s t
 unfolding next_of found
 next_grows s t t' a b e h w =

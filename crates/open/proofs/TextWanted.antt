@@ -1,5 +1,6 @@
 -- "Exactly when", on accepted texts that have room for two records more: where more is wanted, an accepted text that extends this one is
 -- answered otherwise. Assumes nothing.
+use Rattle.std.specs.Prelude.{Ok}
 use Prim.Native.Nat.{ℕ, ◌+◌, ◌-◌, ◌<◌, ◌≤◌}
 use mathlib.Core.Path.{◌≡◌, refl, sym, ◌∙◌, ap, subst}
 use mathlib.Core.Bool.{true, false, false≢true}
@@ -19,7 +20,6 @@ use Rattle.records.specs.Refusals.{verdict, bad_scalar, barred, bad_sign, is_khm
 use Rattle.records.specs.Sound.{SoundRow}
 use Rattle.records.specs.declared.Parser.{Parser}
 use Rattle.records.specs.declared.Parser.TheVariants.{Simple, Myanmar, Complex, Khmer}
-use Rattle.records.specs.declared.Verdict.TheVariants.{Accepted}
 use Rattle.records.proofs.Accepted.{accepted_sound}
 use Rattle.token.specs.Token.{index_of}
 use Rattle.token.proofs.Fields.{scalar_packed, kind_packed, index_packed}
@@ -45,7 +45,7 @@ record Plain (parser : Parser) (x b : ℕ) : Type 0 where
   free : barred parser x 0 ≡ false
   single : member khmer_signs x ≡ false
 
-module _ (parser : Parser) (x b : ℕ) (p : Plain parser x b) (t : Text) (accepted : verdict parser t ≡ Accepted) (room : length t.records.scalars < 4096) where
+module _ (parser : Parser) (x b : ℕ) (p : Plain parser x b) (t : Text) (accepted : verdict parser t ≡ Ok tt) (room : length t.records.scalars < 4096) where
   sound : SoundRow parser (length t.parts.pscalars) (row x b)
   sound = record {
     scalar = p.scalar;
@@ -69,7 +69,7 @@ module _ (parser : Parser) (x b : ℕ) (p : Plain parser x b) (t : Text) (accept
   unfolding bad_sign
   sign k = rw p.single
 
-  next_accepted : verdict parser (with_record t (row x b)) ≡ Accepted
+  next_accepted : verdict parser (with_record t (row x b)) ≡ Ok tt
   next_accepted = more_accepted parser t (row x b) accepted room sound sign
 
   next_extends : Extends t (with_record t (row x b))
@@ -150,7 +150,7 @@ module _ (mode : Mode) (t : Text) (at : ℕ) (room : length t.records.scalars + 
   abbrev n : ℕ
   n = length t.records.scalars
 
-  module _ (parser : Parser) (accepted : verdict parser t ≡ Accepted) (inside : at < length (stream_of mode parser t)) where
+  module _ (parser : Parser) (accepted : verdict parser t ≡ Ok tt) (inside : at < length (stream_of mode parser t)) where
     abbrev stream : List ℕ
     stream = stream_of mode parser t
 
@@ -166,12 +166,12 @@ module _ (mode : Mode) (t : Text) (at : ℕ) (room : length t.records.scalars + 
         (step_differs stream short at inside mode parser x (joins_all parser n) (λ e. omega (arith, e, index_all parser n (omega arith))) d)
 
   -- the newline's look
-  newline_looked : verdict Simple t ≡ Accepted → at < length (stream_of mode Simple t) → looks Simple mode (stream_of mode Simple t) at ≡ true → (called Simple mode (stream_of mode Simple t) at).done ≡ false → TextUnsettled Simple mode t at
+  newline_looked : verdict Simple t ≡ Ok tt → at < length (stream_of mode Simple t) → looks Simple mode (stream_of mode Simple t) at ≡ true → (called Simple mode (stream_of mode Simple t) at).done ≡ false → TextUnsettled Simple mode t at
   newline_looked accepted inside l d = by_one Simple Scalar.LF ClusterBreak.LF plain_newline t accepted (omega arith) mode at
       (newline_differs (stream_of mode Simple t) (token_for Simple (row Scalar.LF ClusterBreak.LF) n) (kind_packed Scalar.LF ClusterBreak.LF ClusterBreak.LF 0 0 0 n (omega arith)) at inside mode l d)
 
   -- the kinzi's: one record is missing, or two
-  module _ (accepted : verdict Myanmar t ≡ Accepted) (inside : at < length (stream_of mode Myanmar t)) (l : looks Myanmar mode (stream_of mode Myanmar t) at ≡ true) where
+  module _ (accepted : verdict Myanmar t ≡ Ok tt) (inside : at < length (stream_of mode Myanmar t)) (l : looks Myanmar mode (stream_of mode Myanmar t) at ≡ true) where
     abbrev tokens : List ℕ
     tokens = stream_of mode Myanmar t
 
@@ -198,20 +198,20 @@ module _ (mode : Mode) (t : Text) (at : ℕ) (room : length t.records.scalars + 
         (one_differs tokens at inside mode fits l m.0 m.1 (token_for Myanmar (row VIRAMA 0) n) (scalar_packed VIRAMA 0 0 0 0 0 n (omega arith))))
         (arm tokens at inside mode fits l).missing
 
-  looked : (parser : Parser) → verdict parser t ≡ Accepted → at < length (stream_of mode parser t) → looks parser mode (stream_of mode parser t) at ≡ true → (called parser mode (stream_of mode parser t) at).done ≡ false → TextUnsettled parser mode t at
+  looked : (parser : Parser) → verdict parser t ≡ Ok tt → at < length (stream_of mode parser t) → looks parser mode (stream_of mode parser t) at ≡ true → (called parser mode (stream_of mode parser t) at).done ≡ false → TextUnsettled parser mode t at
   looked Simple accepted inside l d = newline_looked accepted inside l d
   looked Myanmar accepted inside l d = kinzi_looked accepted inside l
   looked Complex accepted inside l d = absurd (false≢true (unfold looks in l))
   looked Khmer accepted inside l d = absurd (false≢true (unfold looks in l))
 
   -- **Where more is wanted on an accepted text, the records to come decide.**
-  pub texts_unsettled : (parser : Parser) → verdict parser t ≡ Accepted → at < length (stream_of mode parser t) → wants parser mode (stream_of mode parser t) at ≡ true → TextUnsettled parser mode t at
+  pub texts_unsettled : (parser : Parser) → verdict parser t ≡ Ok tt → at < length (stream_of mode parser t) → wants parser mode (stream_of mode parser t) at ≡ true → TextUnsettled parser mode t at
   unfolding wants
   texts_unsettled parser accepted inside w = by_test (called parser mode (stream_of mode parser t) at).done
       (λ d. stepped parser accepted inside d) (λ d. looked parser accepted inside (rw d at w) d)
 
 -- **And where it is not, no accepted text that extends this one is answered otherwise.**
-pub texts_settled : (parser : Parser) (mode : Mode) (t : Text) (at : ℕ) → verdict parser t ≡ Accepted → at < length (stream_of mode parser t) → wants parser mode (stream_of mode parser t) at ≡ false → TextUnsettled parser mode t at → ⊥
+pub texts_settled : (parser : Parser) (mode : Mode) (t : Text) (at : ℕ) → verdict parser t ≡ Ok tt → at < length (stream_of mode parser t) → wants parser mode (stream_of mode parser t) at ≡ false → TextUnsettled parser mode t at → ⊥
 texts_settled parser mode t at accepted inside w u =
     let g = stream_grows mode parser t u.0 accepted u.1.1.0 in
     unwanted_settled (stream_of mode parser t) (omega (arith, stream_room mode parser t (accepted_sound parser t accepted))) at inside mode parser w

@@ -1,4 +1,5 @@
 -- The stream of an extended text begins with the stream of the lent one, so that the laws of streams are laws of texts. Assumes nothing.
+use Rattle.std.specs.Prelude.{Ok}
 use Prim.Native.Nat.{ℕ, zero, suc, ◌+◌, ◌-◌, ◌<◌, ◌≤◌}
 use mathlib.Core.Path.{◌≡◌, refl, sym, ◌∙◌, ap}
 use mathlib.Core.Bool.{Bool, true, false, ◌&&◌, false≢true}
@@ -14,7 +15,6 @@ use Rattle.records.specs.Text.{Records, Parts, Text, cell}
 use Rattle.records.specs.Refusals.{verdict, is_khmer, bad_sign, is_split}
 use Rattle.records.specs.declared.Parser.{Parser}
 use Rattle.records.specs.declared.Parser.TheVariants.{Simple, Myanmar, Complex, Khmer}
-use Rattle.records.specs.declared.Verdict.TheVariants.{Accepted}
 use Rattle.records.proofs.Accepted.{accepted_sound}
 use Rattle.basics.proofs.Tests.{by_test, both}
 use Rattle.stream.specs.Stream.{source_of, splits_of, part_token, part_tokens, itself, stands_alone, split, gather, gives, stream_of}
@@ -55,7 +55,7 @@ sign_one decompose scalar count part l m k e =
     no (suc zero) l a b = b refl
     no (suc (suc d)) l a b = omega arith
 
-module _ (parser : Parser) (t t' : Text) (accepted : verdict parser t ≡ Accepted) (e : Extends t t') (i : ℕ) (h : i < length t.records.scalars) where
+module _ (parser : Parser) (t t' : Text) (accepted : verdict parser t ≡ Ok tt) (e : Extends t t') (i : ℕ) (h : i < length t.records.scalars) where
   abbrev r : Records
   r = t.records
 
@@ -93,13 +93,13 @@ module _ (parser : Parser) (t t' : Text) (accepted : verdict parser t ≡ Accept
       rw (s, part_same (length t.parts.pscalars) t.parts t'.parts e.parts i (cell r.firsts i) lent, m.uses i h, m.breaks i h, m.categories i h, m.selectors i h))
       (λ s. rw s complex_same))))
 
-same_gives : (mode : Mode) (parser : Parser) (t t' : Text) → verdict parser t ≡ Accepted → Extends t t' → (i : ℕ) → i < length t.records.scalars → gives mode parser t' i ≡ gives mode parser t i
+same_gives : (mode : Mode) (parser : Parser) (t t' : Text) → verdict parser t ≡ Ok tt → Extends t t' → (i : ℕ) → i < length t.records.scalars → gives mode parser t' i ≡ gives mode parser t i
 same_gives mode Simple t t' a e i h = simple_same Simple t t' a e i h
 same_gives mode Myanmar t t' a e i h = myanmar_same Myanmar t t' a e i h
 same_gives mode Complex t t' a e i h = split_same Complex t t' a e i h mode false (λ k. absurd (false≢true k))
 same_gives mode Khmer t t' a e i h = split_same Khmer t t' a e i h mode true (λ k. refl)
 
-module _ (mode : Mode) (parser : Parser) (t t' : Text) (accepted : verdict parser t ≡ Accepted) (e : Extends t t') where
+module _ (mode : Mode) (parser : Parser) (t t' : Text) (accepted : verdict parser t ≡ Ok tt) (e : Extends t t') where
   -- the tokens of the records that came
   pub stream_more : stream_of mode parser t' ≡ stream_of mode parser t ++ gather (gives mode parser t') (length t.records.scalars) (length t'.records.scalars - length t.records.scalars)
   unfolding stream_of

@@ -1,4 +1,5 @@
 -- A word run on an open text, resumed where it stopped and in the state that it handed back, is the run at once. Assumes nothing.
+use Rattle.std.specs.Prelude.{Ok}
 use Prim.Native.Nat.{ℕ, zero, suc, ◌+◌, ◌-◌, ◌<◌, ◌≤◌}
 use mathlib.Core.Path.{◌≡◌, refl, sym, ◌∙◌, ap}
 use mathlib.Core.Bool.{Bool, true, false, ◌&&◌, false≢true}
@@ -15,13 +16,12 @@ use Rattle.records.specs.Text.{cell}
 use Rattle.basics.proofs.Tests.{by_test, neither}
 use Rattle.words.specs.declared.WordState.{WordState}
 use Rattle.words.specs.declared.WordStep.{WordStep}
-use Rattle.words.specs.declared.Next.{Next}
+use Rattle.words.specs.Next.{Next}
 use Rattle.words.specs.Rules.{AHLetter, MidNumLetQ, next_in, pair_rules, letter_rules, number_rules, flag_rules, exit_of, leaves}
 use Rattle.words.specs.Step.{start_state}
 use Rattle.words.specs.Run.{next_at, step_from, state_at, answer_at, answers}
 use Rattle.open.specs.Grown.{grown}
 use Rattle.records.specs.Refusals.{word_verdict}
-use Rattle.records.specs.declared.Verdict.TheVariants.{Accepted}
 use Rattle.records.proofs.Marks.{even}
 use Rattle.open.specs.Words.{halfway, asks, word_wants, answers_from, state_after, answered_of, answered, Records, grown_words, grown_marks, word_pieces, GrowWords}
 use Rattle.open.proofs.Grown.{grown_more}
@@ -126,7 +126,7 @@ module _ (words more marks more' : List ℕ) (even : length marks ≡ length wor
       let same = answers_longer words more marks more' even (length words - i) s i (omega arith) in
       split (words ++ more) (marks ++ more') (answered words marks s i) n s i ∙ rw (same.0, same.1)
 
-level : (words marks : List ℕ) → word_verdict words marks ≡ Accepted → length marks ≡ length words
+level : (words marks : List ℕ) → word_verdict words marks ≡ Ok tt → length marks ≡ length words
 level words marks a = even len words marks a
 
 -- **"For every way of extending accepted columns to an accepted closed text, the answers put together equal those of the closed text at

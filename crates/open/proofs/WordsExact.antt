@@ -1,5 +1,6 @@
 -- Where a word run stops one before the last record, the next record decides: `check_word` would hold the boundary after it, or not.
 -- So more is wanted exactly where the answers are not settled. Assumes nothing.
+use Rattle.std.specs.Prelude.{Some, None}
 use Prim.Native.Nat.{ℕ, ◌+◌, ◌<◌}
 use mathlib.Core.Path.{◌≡◌, refl, ◌∙◌, ap}
 use mathlib.Core.Bool.{true, false, ◌&&◌, false≢true}
@@ -15,8 +16,7 @@ use Rattle.basics.proofs.Tests.{by_test, both}
 use Rattle.records.specs.Text.{cell}
 use Rattle.words.specs.declared.WordState.{WordState}
 use Rattle.words.specs.declared.Exit.{Exit}
-use Rattle.words.specs.declared.Next.{Next}
-use Rattle.words.specs.declared.Next.TheVariants.{Class, End}
+use Rattle.words.specs.Next.{Next}
 use Rattle.words.specs.Rules.{AHLetter, MidNumLetQ, pair_rules, letter_rules, number_rules, flag_rules, exit_of, leaves, ruled}
 use Rattle.words.specs.Run.{next_at, step_from}
 use Rattle.open.specs.Words.{halfway, asks, word_wants}
@@ -28,7 +28,7 @@ exits a b pictograph next count = pair_rules a b pictograph (letter_rules a b ne
 -- a next record that the boundary is held for, and is not at the end
 abbrev Decides : WordState → ℕ → ℕ → ℕ → Type 0
 Decides s a b pictograph =
-    (c : ℕ) × ((ltb c len ≡ true) × (((leaves s b (exits a b pictograph (Class c) s.count)).state.prevent ≡ true) × ((leaves s b (exits a b pictograph End s.count)).state.prevent ≡ false)))
+    (c : ℕ) × ((ltb c len ≡ true) × (((leaves s b (exits a b pictograph (Some c) s.count)).state.prevent ≡ true) × ((leaves s b (exits a b pictograph None s.count)).state.prevent ≡ false)))
 
 module _ (s : WordState) (pictograph : ℕ) where
   -- the last rules hold no boundary
@@ -75,12 +75,12 @@ module _ (s : WordState) (pictograph : ℕ) where
   later b next f p = rw (f, p)
 
   -- where `check_word` looks ahead, a next record of the list leaves another state than the end
-  asks_decides : (b : ℕ) → asks s b ≡ true → (c : ℕ) × ((ltb c len ≡ true) × (((ruled s b pictograph (Class c)).state.prevent ≡ true) × ((ruled s b pictograph End).state.prevent ≡ false)))
+  asks_decides : (b : ℕ) → asks s b ≡ true → (c : ℕ) × ((ltb c len ≡ true) × (((ruled s b pictograph (Some c)).state.prevent ≡ true) × ((ruled s b pictograph None).state.prevent ≡ false)))
   unfolding asks
   asks_decides b e = by_test s.first (λ f. absurd (false≢true (rw f at e)))
       (λ f. by_test s.prevent (λ p. absurd (false≢true (rw (f, p) at e)))
       (λ p. let d = decides s.previous b (rw (f, p) at e) in
-      (d.0, (d.1.0, (ap (λ (x : Exit). (leaves s b x).state.prevent) (later b (Class d.0) f p) ∙ d.1.1.0, ap (λ (x : Exit). (leaves s b x).state.prevent) (later b End f p) ∙ d.1.1.1)))))
+      (d.0, (d.1.0, (ap (λ (x : Exit). (leaves s b x).state.prevent) (later b (Some d.0) f p) ∙ d.1.1.0, ap (λ (x : Exit). (leaves s b x).state.prevent) (later b None f p) ∙ d.1.1.1)))))
 
 -- **Where a run stops before the last record, the records to come decide**: behind one of some class of the list the boundary after it is
 -- held, and at the end it is not. The answer may be the same (`HL SQ`), the state is not.

@@ -1,10 +1,9 @@
 -- A word run on an open text: "the answered records, and where it stopped". It starts at a record, in a state, and hands back both.
-use Rattle.std.specs.Prelude.{ℕ, zero, suc, ◌+◌, ◌-◌, ◌≡◌, Bool, false, cond, ◌&&◌, ◌||◌, List, [], ◌∷◌, ◌++◌, map, eqb, ltb, length}
+use Rattle.std.specs.Prelude.{ℕ, zero, suc, ◌+◌, ◌-◌, ◌≡◌, Bool, false, cond, ◌&&◌, ◌||◌, List, [], ◌∷◌, ◌++◌, map, eqb, ltb, length, Ok}
 use Rattle.basics.specs.Sets.{member}
 use Rattle.classes.specs.WordBreak.{HL, ML, MN, NU, DQ}
 use Rattle.records.specs.Text.{cell}
 use Rattle.records.specs.Refusals.{word_verdict}
-use Rattle.records.specs.declared.Verdict.TheVariants.{Accepted}
 use Rattle.words.specs.declared.WordState.{WordState}
 use Rattle.words.specs.Rules.{AHLetter, MidNumLetQ}
 use Rattle.words.specs.Run.{step_from}
@@ -65,5 +64,5 @@ word_pieces words pictographs (r ∷ later) s i =
 
 -- the columns as they grow are accepted each time, the closed ones too
 unfoldable pub GrowWords : List ℕ → List ℕ → List Records → Type 0
-GrowWords words marks [] = word_verdict words marks ≡ Accepted
-GrowWords words marks (r ∷ later) = (word_verdict words marks ≡ Accepted) × GrowWords (words ++ r.words) (marks ++ r.marks) later
+GrowWords words marks [] = word_verdict words marks ≡ Ok tt
+GrowWords words marks (r ∷ later) = (word_verdict words marks ≡ Ok tt) × GrowWords (words ++ r.words) (marks ++ r.marks) later

@@ -1,14 +1,9 @@
 -- What only private contracts need: how far a run of U+034F is pushed.
-use Rattle.std.specs.Prelude.{ℕ, zero, suc, ◌+◌, ◌-◌, cond, List, [], eqb, ltb, length, get_or}
-use Rattle.std.specs.Borrow.{Bor}
+use Rattle.std.specs.Prelude.{ℕ, zero, suc, ◌+◌, ◌-◌, cond, List, eqb, ltb, length}
 use Rattle.classes.specs.Scalar.{CGJ}
 use Rattle.token.specs.Token.{scalar_of}
 use Rattle.parse.specs.declared.Parse.{Parse}
 use Rattle.parse.specs.State.{token_at, place_after, going}
-
--- a text behind a thin reference, that to an array which holds it alone
-abbrev pub held : List (Bor (List ℕ)) → List ℕ
-held texts = (get_or texts 0 (record { ref_ptr = (0, 0); now = [] })).now
 
 -- the last U+034F of those behind token i of n, as many as there is room for; token i where there is none
 unfoldable pub step_past : ℕ → ℕ → List ℕ → ℕ → ℕ

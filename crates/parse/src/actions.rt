@@ -1,28 +1,33 @@
 // The small functions of the three Rust parsers. Each does what its rule says, and nothing where the call does not go on.
+#![tactic(auto, unfolding(crate::specs::Rule::run, crate::specs::Rule::thrice_of, crate::specs::State::note_of))]
+
 ghost use Rattle.std.specs.Prelude.{◌≡◌};
 ghost use Rattle.parse.specs.Rule.{run, take, note, mark, accept_as, many_as, many, set_broken, set_emoji, set_space, set_space_from_char, force_normalize};
 
-use crate::state::token_at;
-use crate::{Emoji, Flow, Info, Parse, Space};
+use crate::{Emoji, Flow, Parse, Space};
 use classes::Shape;
 
 impl Parse {
+    // Kept whole in the machine code, so that no other frame has the places of a push.
+    #[inline(never)]
     pub fn accept_any_as(self, text: &[u64], class: Shape) -> Parse
         ensures { result ≡ run (take class) text.now self }
     {
         if self.going() {
-            return self.push(text, class);
+            self.push(text, class)
+        } else {
+            self
         }
-        self
     }
 
     pub fn accept_as(self, text: &[u64], kind: u8, class: Shape) -> Parse
         ensures { result ≡ run (accept_as kind class) text.now self }
     {
         if self.kind_is(text, kind) {
-            return self.accept_any_as(text, class);
+            self.accept_any_as(text, class)
+        } else {
+            self
         }
-        self
     }
 
     pub fn accept(self, text: &[u64], kind: u8) -> Parse
@@ -31,21 +36,19 @@ impl Parse {
         self.accept_as(text, kind, Shape::Other)
     }
 
-    pub fn accept_zero_or_many_as(self, text: &[u64], kind: u8, class: Shape) -> Parse
+    pub fn accept_zero_or_many_as(mut self, text: &[u64], kind: u8, class: Shape) -> Parse
         ensures { result ≡ run (many_as kind class) text.now self }
     {
-        let mut s = self;
-        while s.kind_is(text, kind) {
-            s = s.accept_any_as(text, class);
+        while self.kind_is(text, kind) {
+            self = self.accept_any_as(text, class);
         }
-        s
+        self
     }
 
-    pub fn accept_zero_or_many(mut self, text: &[u64], kind: u8) -> Parse
+    pub fn accept_zero_or_many(self, text: &[u64], kind: u8) -> Parse
         ensures { result ≡ run (many kind) text.now self }
     {
-        self = self.accept_zero_or_many_as(text, kind, Shape::Other);
-        self
+        self.accept_zero_or_many_as(text, kind, Shape::Other)
     }
 
     // `note_char`, and the step behind it.
@@ -53,10 +56,8 @@ impl Parse {
         ensures { result ≡ run note text.now self }
     {
         if self.going() {
-            let at = self.at;
-            self = self.noted(token_at(text, at));
+            self = self.noted(self.current(text));
             self = self.step(text);
-            return self;
         }
         self
     }
@@ -70,66 +71,43 @@ impl Parse {
             self = self.accept_any_as(text, class);
             self = self.accept_any_as(text, class);
             self = self.retried();
-            return self;
         }
         self
     }
 
     // The scope around is done, or else the cluster.
-    pub fn stop(self, text: &[u64]) -> Parse
+    pub fn stop(mut self, text: &[u64]) -> Parse
         ensures { result ≡ run Rattle.parse.specs.Rule.stop text.now self }
     {
         if self.going() {
-            return self.with_flow(Flow::Stop);
+            self.flow = Flow::Stop;
         }
         self
     }
 
-    pub fn set_broken(self, text: &[u64]) -> Parse
+    pub fn set_broken(mut self, text: &[u64]) -> Parse
         ensures { result ≡ run (mark set_broken) text.now self }
     {
         if self.going() {
-            let i = self.info;
-            let emoji = i.emoji;
-            let space = i.space;
-            return self.with_info(Info {
-                emoji: emoji,
-                space: space,
-                broken: true,
-                normalise: i.normalise,
-            });
+            self.info.broken = true;
         }
         self
     }
 
-    pub fn set_emoji(self, text: &[u64], emoji: Emoji) -> Parse
+    pub fn set_emoji(mut self, text: &[u64], emoji: Emoji) -> Parse
         ensures { result ≡ run (mark (set_emoji emoji)) text.now self }
     {
         if self.going() {
-            let i = self.info;
-            let space = i.space;
-            return self.with_info(Info {
-                emoji: emoji,
-                space: space,
-                broken: i.broken,
-                normalise: i.normalise,
-            });
+            self.info.emoji = emoji;
         }
         self
     }
 
-    pub fn set_space(self, text: &[u64], space: Space) -> Parse
+    pub fn set_space(mut self, text: &[u64], space: Space) -> Parse
         ensures { result ≡ run (mark (set_space space)) text.now self }
     {
         if self.going() {
-            let i = self.info;
-            let emoji = i.emoji;
-            return self.with_info(Info {
-                emoji: emoji,
-                space: space,
-                broken: i.broken,
-                normalise: i.normalise,
-            });
+            self.info.space = space;
         }
         self
     }
@@ -138,24 +116,14 @@ impl Parse {
     pub fn set_space_from_char(self, text: &[u64]) -> Parse
         ensures { result ≡ run (mark set_space_from_char) text.now self }
     {
-        let at = self.at;
-        let x = token::scalar(token_at(text, at));
-        self.set_space(text, Space::From(x))
+        self.set_space(text, Space::From(token::scalar(self.current(text))))
     }
 
-    pub fn force_normalize(self, text: &[u64]) -> Parse
+    pub fn force_normalize(mut self, text: &[u64]) -> Parse
         ensures { result ≡ run (mark force_normalize) text.now self }
     {
         if self.going() {
-            let i = self.info;
-            let emoji = i.emoji;
-            let space = i.space;
-            return self.with_info(Info {
-                emoji: emoji,
-                space: space,
-                broken: i.broken,
-                normalise: true,
-            });
+            self.info.normalise = true;
         }
         self
     }

@@ -1,9 +1,10 @@
 // The arm for class O, which stands in the Myanmar and in the complex parser of the Rust.
+#![tactic(auto, unfolding(crate::specs::Rule::run, crate::specs::Shared::newline, crate::specs::Shared::newline_with, crate::specs::Shared::other_arm))]
+
 ghost use Rattle.std.specs.Prelude.{◌≡◌};
 ghost use Rattle.parse.specs.Rule.{run, push};
 ghost use Rattle.parse.specs.Shared.{other_class, newline, newline_with, other_arm};
 
-use crate::state::token_at;
 use crate::{Parse, Space};
 use classes::{Shape, category, scalar};
 
@@ -11,30 +12,22 @@ use classes::{Shape, category, scalar};
 fn other_class(t: u64) -> Shape
     ensures { result ≡ other_class t }
 {
-    let x = token::scalar(t);
-    let k = token::category(t);
-    if k == category::Format {
-        if x == scalar::ZWNJ {
-            return Shape::Zwnj;
-        }
-        if x == scalar::ZWJ {
-            return Shape::Zwj;
-        }
-        return Shape::Control;
+    match token::category(t) {
+        category::Format => match token::scalar(t) {
+            scalar::ZWNJ => Shape::Zwnj,
+            scalar::ZWJ => Shape::Zwj,
+            _ => Shape::Control,
+        },
+        category::Control => Shape::Control,
+        _ => Shape::Base,
     }
-    if k == category::Control {
-        return Shape::Control;
-    }
-    Shape::Base
 }
 
 impl Parse {
     fn accept_any_other(self, text: &[u64]) -> Parse
         ensures { result ≡ run (push other_class) text.now self }
     {
-        let at = self.at;
-        let class = other_class(token_at(text, at));
-        self.accept_any_as(text, class)
+        self.accept_any_as(text, other_class(self.current(text)))
     }
 
     pub fn parse_newline(self, text: &[u64]) -> Parse
@@ -49,25 +42,27 @@ impl Parse {
         ensures { result ≡ run (newline_with kind) text.now self }
     {
         if self.is_crowded(text, kind) {
-            return self.stop(text);
+            self.stop(text)
+        } else {
+            self.parse_newline(text)
         }
-        self.parse_newline(text)
     }
 
     // The arm `O`: CR with an LF, LF, or any other, by its category.
-    pub fn parse_other(self, text: &[u64]) -> Parse
+    pub fn parse_other(mut self, text: &[u64]) -> Parse
         ensures { result ≡ run other_arm text.now self }
     {
         if self.scalar_is(text, scalar::CR) {
-            let s = self.parse_newline(text);
-            if s.scalar_is(text, scalar::LF) {
-                return s.accept_any_as(text, Shape::Control);
+            self = self.parse_newline(text);
+            if self.scalar_is(text, scalar::LF) {
+                self = self.accept_any_as(text, Shape::Control);
             }
-            return s;
+        } else if self.scalar_is(text, scalar::LF) {
+            self = self.parse_newline(text);
+        } else {
+            self = self.set_space_from_char(text);
+            self = self.accept_any_other(text);
         }
-        if self.scalar_is(text, scalar::LF) {
-            return self.parse_newline(text);
-        }
-        self.set_space_from_char(text).accept_any_other(text)
+        self
     }
 }

@@ -17,7 +17,7 @@ use classes::{Mode, Shape};
 
 // The answer of each part of a parser, for the Rust's `Option<()>`: it goes on, or stopped of its own, or the cluster has 32, or
 // the text ended.
-#[derive(Clone, Copy)]
+#[derive(Clone, Copy, Debug, PartialEq, Eq)]
 pub enum Flow {
     GoOn,
     Stop,
@@ -25,7 +25,7 @@ pub enum Flow {
     End,
 }
 
-#[derive(Clone, Copy)]
+#[derive(Clone, Copy, Debug, PartialEq, Eq)]
 pub enum Emoji {
     None,
     Default,
@@ -33,12 +33,12 @@ pub enum Emoji {
     Color,
 }
 
-impl Emoji {
-    // The number that a stepping call tells for the emoji.
-    pub fn code(self) -> u8
-        ensures { result ≡ emoji_code self }
-    {
-        match self {
+// The number that a stepping call tells for the emoji.
+impl From<Emoji> for u8 {
+    ghost from_gives = { λ emoji code. code ≡ emoji_code emoji };
+
+    fn from(emoji: Emoji) -> u8 {
+        match emoji {
             Emoji::None => 0,
             Emoji::Default => 1,
             Emoji::Text => 2,
@@ -47,7 +47,7 @@ impl Emoji {
     }
 }
 
-#[derive(Clone, Copy)]
+#[derive(Clone, Copy, Debug, PartialEq, Eq)]
 pub enum Space {
     None,
     Newline,
@@ -77,7 +77,7 @@ impl Space {
     }
 }
 
-#[derive(Clone, Copy)]
+#[derive(Clone, Copy, Debug, PartialEq, Eq)]
 pub struct Info {
     pub emoji: Emoji,
     pub space: Space,
@@ -86,7 +86,7 @@ pub struct Info {
 }
 
 // A character of the cluster: its scalar, the index of its record, how many tokens are noted directly after it, its shape class.
-#[derive(Clone, Copy)]
+#[derive(Clone, Copy, Debug, PartialEq, Eq)]
 pub struct Pushed {
     pub scalar: u32,
     pub index: u16,
@@ -94,7 +94,7 @@ pub struct Pushed {
     pub class: Shape,
 }
 
-#[derive(Clone, Copy)]
+#[derive(Clone, Copy, Debug, PartialEq, Eq)]
 pub struct Cluster {
     pub len: usize,
     pub chars: [Pushed; 32],
@@ -118,6 +118,7 @@ impl Cluster {
         },
     };
 
+    // A constant has no contract; this says what it is.
     pub fn empty() -> Cluster
         ensures { result ≡ empty_cluster }
     {
@@ -126,7 +127,7 @@ impl Cluster {
 }
 
 // A token's number in the stream, or the number of tokens, which is the end.
-#[derive(Clone, Copy)]
+#[derive(Clone, Copy, Debug, PartialEq, Eq)]
 pub struct Place {
     pub at: usize,
 }
@@ -134,6 +135,7 @@ pub struct Place {
 impl Place {
     pub const START: Place = Place { at: 0 };
 
+    // A constant has no contract; this says what it is.
     pub fn start() -> Place
         ensures { result ≡ start_place }
     {
@@ -142,7 +144,8 @@ impl Place {
 }
 
 // A call under way. `done` is the Rust's: the text has ended, and `at` stays on its last token. `again` says that this token is
-// read a second time, repeat (b). `joins` says whether U+034F is stepped over. One flat struct, since it is changed in place.
+// read a second time, repeat (b). `joins` says whether U+034F is stepped over. One flat struct with no `Cluster` in it, as the definitions
+// of specs/State.antt and the theorems over them have it.
 //
 // It has 424 bytes, and the compiler gives each variable that holds one a place of its own on the stack. So a function that asks between
 // its steps takes them in one variable, `s = s.accept(..);`, and the steps of a push are in one function that is kept whole.

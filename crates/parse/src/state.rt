@@ -1,15 +1,15 @@
 // What one push, one note and one step do to a call under way, in both modes.
-ghost use Rattle.std.specs.Prelude.{◌≡◌, cond, ltb, ◌+◌, ◌-◌, ◌<◌};
-ghost use Rattle.parse.specs.State.{token_at, place_after, cluster_of, place_of, is_going, with_flow, with_info, filled_at, last_room, put_of, noted_of, moved_of, on_joiner, step_of, push_of, resumed_of, retried_of, go_on, passes_end};
-ghost use Rattle.parse.specs.Inner.{held, step_past, last_pushed};
+ghost use Rattle.std.specs.Prelude.{◌≡◌, ◌+◌, ◌-◌, length};
+ghost use Rattle.parse.specs.State.{token_at, place_after, cluster_of, place_of, is_going, filled_at, last_room, put_of, noted_of, moved_of, on_joiner, step_of, push_of, resumed_of, retried_of, go_on, passes_end};
+ghost use Rattle.parse.specs.Inner.{step_past, last_pushed};
 
-use crate::{Cluster, Flow, Info, Parse, Place, Pushed};
+use crate::{Cluster, Flow, Parse, Place, Pushed};
 use classes::{Mode, Shape, scalar};
 
 pub fn token_at(text: &[u64], i: usize) -> u64
     ensures { result ≡ token_at text.now i }
 {
-    if i < text.len() { text[i] } else { 0 }
+    text.get(i).copied().unwrap_or(0)
 }
 
 // The token behind a place.
@@ -17,9 +17,10 @@ pub(crate) fn token_after(text: &[u64], i: usize) -> u64
     ensures { result ≡ token_at text.now (i + 1) }
 {
     if i < text.len() {
-        return token_at(text, i + 1);
+        token_at(text, i + 1)
+    } else {
+        0
     }
-    0
 }
 
 fn place_after(n: usize, i: usize) -> usize
@@ -48,20 +49,12 @@ pub(crate) fn last_room(mode: Mode, len: usize) -> bool
     }
 }
 
-fn one_more(m: u16) -> u16
-    ensures { result ≡ cond (ltb m 65535) (m + 1) m }
-{
-    if m < u16::MAX { m + 1 } else { m }
-}
-
 fn go_on(flow: Flow) -> Flow
     ensures { result ≡ go_on flow }
 {
     match flow {
-        Flow::GoOn => Flow::GoOn,
-        Flow::Stop => Flow::GoOn,
-        Flow::Full => Flow::Full,
-        Flow::End => Flow::End,
+        Flow::GoOn | Flow::Stop => Flow::GoOn,
+        Flow::Full | Flow::End => flow,
     }
 }
 
@@ -69,144 +62,83 @@ fn go_on(flow: Flow) -> Flow
 fn passes_end(mode: Mode, flow: Flow, again: bool) -> bool
     ensures { result ≡ passes_end mode flow again }
 {
-    match mode {
-        Mode::Whole => false,
-        Mode::Crate => match flow {
-            Flow::GoOn => false,
-            Flow::Stop => false,
-            Flow::Full => false,
-            Flow::End => if again { false } else { true },
-        },
-    }
-}
-
-// A token of a text that is handed on behind a thin reference.
-fn token_of<'s, 'a>(text: &'s [&'a [u64]; 1], i: usize) -> u64
-    ensures { result ≡ token_at (held text.now) i }
-{
-    token_at(text[0], i)
+    matches!((mode, flow), (Mode::Crate, Flow::End)) && !again
 }
 
 // A U+034F is taken as Other, and so are all that follow it directly, as long as there is room (SCOPE 6.2): the last token that is pushed
-// so, where a cluster of len characters steps off token i of n. Step and push call each other, and the room left falls. What goes round
-// is numbers and a thin reference alone, so that the compiler makes a loop of the two.
-#[cycle(push_past_step_past)]
-fn step_past<'s, 'a>(text: &'s [&'a [u64]; 1], n: usize, i: usize, len: usize) -> usize
-    ensures { result ≡ step_past (32 - len) n (held text.now) i }
+// so, where a cluster of len characters steps off token i. No range: the last token has no token after it, and the definition counts the
+// room that is left.
+fn step_past(text: &[u64], mut i: usize, mut len: usize) -> usize
+    ensures { result ≡ step_past (32 - len) (length text.now) text.now i }
 {
-    if len < 32 {
-        let next = place_after(n, i);
-        if token::scalar(token_of(text, next)) == scalar::CGJ {
-            return push_past(text, n, next, len);
+    while len < 32 {
+        let next = place_after(text.len(), i);
+        if token::scalar(token_at(text, next)) != scalar::CGJ {
+            return i;
         }
-        return i;
+        i = next;
+        len += 1;
     }
     i
-}
-
-// The same from the U+034F at i on, which is pushed first.
-#[cycle(push_past_step_past)]
-fn push_past<'s, 'a>(text: &'s [&'a [u64]; 1], n: usize, i: usize, len: usize) -> usize
-    requires { len < 32 }
-    ensures { result ≡ step_past (32 - (len + 1)) n (held text.now) i }
-{
-    step_past(text, n, i, len + 1)
 }
 
 impl Parse {
     pub fn begin(place: Place, mode: Mode, joins: bool) -> Parse
         ensures { result ≡ Rattle.parse.specs.State.begin place mode joins }
     {
-        let empty = Cluster::EMPTY;
-        let chars = empty.chars;
-        let info = empty.info;
+        let Cluster { len, chars, info } = Cluster::EMPTY;
         Parse {
             at: place.at,
             done: false,
             again: false,
             flow: Flow::GoOn,
-            mode: mode,
-            joins: joins,
-            len: 0,
-            chars: chars,
-            info: info,
+            mode,
+            joins,
+            len,
+            chars,
+            info,
         }
     }
 
     pub fn cluster(self) -> Cluster
         ensures { result ≡ cluster_of self }
     {
-        let chars = self.chars;
-        let info = self.info;
-        Cluster {
-            len: self.len,
-            chars: chars,
-            info: info,
-        }
+        let Parse {
+            len,
+            chars,
+            info,
+            ..
+        } = self;
+        Cluster { len, chars, info }
     }
 
     // The next place.
     pub fn place(self, text: &[u64]) -> Place
         ensures { result.at ≡ place_of text.now self }
     {
-        if self.done {
-            return Place { at: text.len() };
+        Place {
+            at: if self.done { text.len() } else { self.at },
         }
-        Place { at: self.at }
     }
 
     pub fn going(self) -> bool
         ensures { result ≡ is_going self.flow }
     {
-        let flow = self.flow;
-        match flow {
-            Flow::GoOn => true,
-            Flow::Stop => false,
-            Flow::Full => false,
-            Flow::End => false,
-        }
-    }
-
-    // A store to a field that is an enum is not covered, so the struct is written anew.
-    pub(crate) fn with_flow(self, flow: Flow) -> Parse
-        ensures { result ≡ with_flow flow self }
-    {
-        let mode = self.mode;
-        let chars = self.chars;
-        let info = self.info;
-        Parse {
-            at: self.at,
-            done: self.done,
-            again: self.again,
-            flow: flow,
-            mode: mode,
-            joins: self.joins,
-            len: self.len,
-            chars: chars,
-            info: info,
-        }
-    }
-
-    pub(crate) fn with_info(mut self, info: Info) -> Parse
-        ensures { result ≡ with_info info self }
-    {
-        self.info = info;
-        self
+        matches!(self.flow, Flow::GoOn)
     }
 
     // A token as one more character, where there is room.
     fn put(mut self, t: u64, class: Shape) -> Parse
         ensures { result ≡ put_of t class self }
     {
-        let n = self.len;
-        if n < 32 {
-            self.chars[n] = Pushed {
+        if self.len < 32 {
+            self.chars[self.len] = Pushed {
                 scalar: token::scalar(t),
                 index: token::index(t),
                 noted: 0,
-                class: class,
+                class,
             };
-            self.len = n + 1;
+            self.len += 1;
         }
         self
     }
@@ -215,21 +147,12 @@ impl Parse {
     pub(crate) fn noted(mut self, t: u64) -> Parse
         ensures { result ≡ noted_of t self }
     {
-        let n = self.len;
-        if n == 0 {
+        if self.len == 0 {
             return self.put(t, Shape::Other);
         }
-        if n < 33 {
-            let i = n - 1;
-            let c = self.chars[i];
-            let class = c.class;
-            let noted = c.noted;
-            self.chars[i] = Pushed {
-                scalar: c.scalar,
-                index: c.index,
-                noted: one_more(noted),
-                class: class,
-            };
+        if self.len < 33 {
+            let last = self.len - 1;
+            self.chars[last].noted = self.chars[last].noted.saturating_add(1);
         }
         self
     }
@@ -238,16 +161,16 @@ impl Parse {
     fn moved(mut self, n: usize) -> Parse
         ensures { result ≡ moved_of n self }
     {
-        let at = self.at;
         if 32 <= self.len {
-            let mode = self.mode;
-            self.at = filled_at(mode, n, at);
-            return self.with_flow(Flow::Full);
+            self.at = filled_at(self.mode, n, self.at);
+            self.flow = Flow::Full;
+            return self;
         }
-        let next = place_after(n, at);
+        let next = place_after(n, self.at);
         if n <= next {
             self.done = true;
-            return self.with_flow(Flow::End);
+            self.flow = Flow::End;
+            return self;
         }
         self.at = next;
         self
@@ -256,30 +179,18 @@ impl Parse {
     fn on_joiner(self, text: &[u64]) -> bool
         ensures { result ≡ on_joiner text.now self }
     {
-        let at = self.at;
-        let x = token::scalar(token_at(text, at));
-        if self.going() {
-            if self.joins {
-                return x == scalar::CGJ;
-            }
-        }
-        false
+        self.going() && self.joins && token::scalar(self.current(text)) == scalar::CGJ
     }
 
     // The last token that is pushed where the current one is: of the U+034F behind it, as many as there is room for.
     fn last_pushed(self, text: &[u64]) -> usize
         ensures { result ≡ last_pushed text.now self }
     {
-        let at = self.at;
-        let len = self.len;
-        if self.going() {
-            if self.joins {
-                if len < 32 {
-                    return push_past(&[text], text.len(), at, len);
-                }
-            }
+        if self.going() && self.joins && self.len < 32 {
+            step_past(text, self.at, self.len + 1)
+        } else {
+            self.at
         }
-        at
     }
 
     // Push, then step: what the step pushes is pushed here.
@@ -288,13 +199,11 @@ impl Parse {
     {
         let last = self.last_pushed(text);
         while self.at < last {
-            let at = self.at;
-            self = self.put(token_at(text, at), class);
+            self = self.put(self.current(text), class);
             self = self.moved(text.len());
             class = Shape::Other;
         }
-        let at = self.at;
-        self = self.put(token_at(text, at), class);
+        self = self.put(self.current(text), class);
         self = self.moved(text.len());
         self
     }
@@ -306,29 +215,25 @@ impl Parse {
         self = self.moved(text.len());
         if self.on_joiner(text) {
             self = self.accept_any_as(text, Shape::Other);
-            return self;
         }
         self
     }
 
     // After a scope: a stop in it ended it alone.
-    pub fn resumed(self) -> Parse
+    pub fn resumed(mut self) -> Parse
         ensures { result ≡ resumed_of self }
     {
-        let flow = self.flow;
-        self.with_flow(go_on(flow))
+        self.flow = go_on(self.flow);
+        self
     }
 
     // After a kinzi: the end of the text is passed over where `passes_end` says so.
     pub(crate) fn retried(mut self) -> Parse
         ensures { result ≡ retried_of self }
     {
-        let mode = self.mode;
-        let flow = self.flow;
-        let again = self.again;
-        if passes_end(mode, flow, again) {
+        if passes_end(self.mode, self.flow, self.again) {
             self.again = true;
-            return self.with_flow(Flow::GoOn);
+            self.flow = Flow::GoOn;
         }
         self
     }

@@ -1,5 +1,6 @@
 -- On plain texts the clusters of SCOPE 12.5 are the simple parser's, by both engines, whose contracts are one.
 -- Assumes nothing.
+use Rattle.std.specs.Prelude.{Ok}
 use Prim.Native.Nat.{ℕ, zero, suc, ◌+◌, ◌<◌, ◌≤◌}
 use mathlib.Core.Path.{◌≡◌, refl, sym, ◌∙◌, ap}
 use mathlib.Core.Bool.{Bool, true, false, cond}
@@ -15,7 +16,6 @@ use Rattle.records.specs.Text.{Text, cell}
 use Rattle.records.specs.Refusals.{most, verdict}
 use Rattle.records.specs.Sound.{Sound}
 use Rattle.records.specs.declared.Parser.TheVariants.{Simple}
-use Rattle.records.specs.declared.Verdict.TheVariants.{Accepted}
 use Rattle.records.proofs.Accepted.{accepted_sound}
 use Rattle.records.proofs.Marks.{clean_accepted}
 use Rattle.records.proofs.Written as Written
@@ -27,7 +27,7 @@ use Rattle.plain.proofs.ClustersPlain.{clusters_plain}
 
 -- # What the simple parser's check accepts, the check of these two of its columns accepts
 
-module _ (t : Text) (accepted : verdict Simple t ≡ Accepted) where
+module _ (t : Text) (accepted : verdict Simple t ≡ Ok tt) where
   abbrev sound : Sound Simple t
   sound = accepted_sound Simple t accepted
 
@@ -40,7 +40,7 @@ module _ (t : Text) (accepted : verdict Simple t ≡ Accepted) where
   size : length breaks ≡ length t.records.scalars
   size = (even Simple t sound Simple).break
 
-  pub columns_accepted : grapheme_check breaks marks ≡ Accepted
+  pub columns_accepted : grapheme_check breaks marks ≡ Ok tt
   columns_accepted =
       let long : length marks ≡ length t.records.scalars = (even Simple t sound Simple).emoji in
       let short : length t.records.scalars ≤ most = ltb-false most (length t.records.scalars) (neither (ltb most (length t.records.scalars)) _ sound.short).0 in
@@ -65,13 +65,13 @@ is_one breaks marks i = bit_one (boundary_at breaks marks i)
 
 -- "On plain texts (8.1) the records with 1 are where the simple parser's clusters start, in both of its modes": with a cell for each
 -- record, neither run refuses, and the cells that are 1 stand where the clusters start.
-pub graphemes_plain : (mode : Mode) (t : Text) (out : List ℕ) → verdict Simple t ≡ Accepted → is_plain mode t ≡ true → length t.records.breaks ≤ length out
-    → (grapheme_verdict t.records.breaks t.records.semojis (length out) ≡ Accepted)
+pub graphemes_plain : (mode : Mode) (t : Text) (out : List ℕ) → verdict Simple t ≡ Ok tt → is_plain mode t ≡ true → length t.records.breaks ≤ length out
+    → (grapheme_verdict t.records.breaks t.records.semojis (length out) ≡ Ok tt)
     × (places_from (λ i. eqb (cell (grapheme_cells t.records.breaks t.records.semojis out) i) 1) 0 (length t.records.breaks) ≡ cluster_starts mode t)
 graphemes_plain mode t out accepted plain long =
     let b : List ℕ = t.records.breaks in
     let m : List ℕ = t.records.semojis in
-    let said : grapheme_verdict b m (length out) ≡ Accepted = rw (columns_accepted t accepted, le-ltb (length out) (length b) long) in
+    let said : grapheme_verdict b m (length out) ≡ (Ok tt) = rw (columns_accepted t accepted, le-ltb (length out) (length b) long) in
     let same : (i : ℕ) → 0 ≤ i → i < 0 + length b → eqb (cell (grapheme_cells b m out) i) 1 ≡ boundary_at b m i =
     λ i l h. ap (λ x. eqb x 1) (Written.record_cell (start_at b m) (length b) out (grapheme_verdict b m (length out)) i (omega arith) said) ∙ is_one b m i in
     (said, places_same (λ i. eqb (cell (grapheme_cells b m out) i) 1) (boundary_at b m) (length b) 0 same ∙ sym (clusters_plain mode t accepted plain))

@@ -1,5 +1,6 @@
 -- What a full run writes to its third column on a plain text: for each pushed character the number of UAX #29's cluster that its
 -- record is in. Assumes nothing.
+use Rattle.std.specs.Prelude.{Ok}
 use Prim.Native.Nat.{ℕ, zero, suc, ◌+◌, ◌-◌, ◌<◌, ◌≤◌}
 use mathlib.Core.Path.{◌≡◌, refl, sym, ◌∙◌, ap, subst}
 use mathlib.Core.Bool.{true, false}
@@ -15,7 +16,6 @@ use Rattle.classes.specs.declared.Mode.TheVariants.{Crate, Whole}
 use Rattle.records.specs.Text.{Text}
 use Rattle.records.specs.Refusals.{verdict}
 use Rattle.records.specs.declared.Parser.TheVariants.{Simple}
-use Rattle.records.specs.declared.Verdict.TheVariants.{Accepted}
 use Rattle.token.specs.Token.{index_of}
 use Rattle.stream.specs.Stream.{stream_of}
 use Rattle.parse.specs.declared.Parse.{Parse}
@@ -111,7 +111,7 @@ module _ (mode : Mode) (stream breaks marks : List ℕ) (short : length stream �
       (λ q. subst (λ ps. column_of cluster_in k ps ≡ numbers_of breaks marks ps) (sym (calls_over mode stream n at q)) refl)
 
 -- The cluster numbers of a run, from 0, are those of UAX #29's clusters.
-pub numbers_plain : (mode : Mode) (t : Text) → verdict Simple t ≡ Accepted → is_plain mode t ≡ true → column_of cluster_in 0 (simple_calls mode t) ≡ numbers_of t.records.breaks t.records.semojis (simple_calls mode t)
+pub numbers_plain : (mode : Mode) (t : Text) → verdict Simple t ≡ Ok tt → is_plain mode t ≡ true → column_of cluster_in 0 (simple_calls mode t) ≡ numbers_of t.records.breaks t.records.semojis (simple_calls mode t)
 unfolding is_plain number_at
 numbers_plain mode t accepted plain =
     let stream : List ℕ = stream_of mode Simple t in
@@ -123,6 +123,6 @@ numbers_plain mode t accepted plain =
     (λ i h. stream_index mode t accepted i (omega arith)) (length stream) 0 0 (λ h. (starts_at_0 breaks marks (omega arith), refl)) told.1
 
 -- So the third lent column of every full run over a plain text holds them.
-pub run_plain : (mode : Mode) (t : Text) (scalars classes clusters : List ℕ) (r : RunAnswer) (scalars' classes' clusters' : List ℕ) → RanOf Simple mode t scalars classes clusters r scalars' classes' clusters' → verdict Simple t ≡ Accepted → r.verdict ≡ Accepted → is_plain mode t ≡ true → take r.characters clusters' ≡ numbers_of t.records.breaks t.records.semojis (simple_calls mode t)
+pub run_plain : (mode : Mode) (t : Text) (scalars classes clusters : List ℕ) (r : RunAnswer) (scalars' classes' clusters' : List ℕ) → RanOf Simple mode t scalars classes clusters r scalars' classes' clusters' → verdict Simple t ≡ Ok tt → r.verdict ≡ Ok tt → is_plain mode t ≡ true → take r.characters clusters' ≡ numbers_of t.records.breaks t.records.semojis (simple_calls mode t)
 run_plain mode t scalars classes clusters r scalars' classes' clusters' ran accepted v plain =
     (run_writes Simple mode t scalars classes clusters r scalars' classes' clusters' ran v).4 ∙ numbers_plain mode t accepted plain

@@ -1,5 +1,6 @@
 -- On every accepted plain text the simple parser's clusters start where UAX #29's boundaries stand, in both modes.
 -- Assumes nothing.
+use Rattle.std.specs.Prelude.{Ok}
 use Prim.Native.Nat.{ℕ, zero, suc, ◌+◌, ◌-◌, ◌<◌, ◌≤◌}
 use mathlib.Core.Path.{◌≡◌, refl, sym, ◌∙◌, ap, subst}
 use mathlib.Core.Bool.{Bool, true, false, cond, not, ◌&&◌, ◌||◌, false≢true}
@@ -18,7 +19,6 @@ use Rattle.records.specs.Text.{Text, cell, record_lengths}
 use Rattle.records.specs.Refusals.{uneven, verdict}
 use Rattle.records.specs.Sound.{Sound}
 use Rattle.records.specs.declared.Parser.TheVariants.{Simple}
-use Rattle.records.specs.declared.Verdict.TheVariants.{Accepted}
 use Rattle.records.proofs.Accepted.{accepted_sound}
 use Rattle.token.specs.Token.{kind_of, break_of, emoji_of, index_of}
 use Rattle.token.proofs.Fields.{Says}
@@ -63,7 +63,7 @@ not-false false e = absurd (false≢true (sym e))
 second_even : (x y : ℕ) (ns : List ℕ) → uneven (x ∷ y ∷ ns) ≡ false → y ≡ x
 second_even x y ns e = eqb-true y x (not-false (eqb y x) (second_false (not (eqb x x)) (not (eqb y x)) (any_of (λ n. not (eqb n x)) ns) e))
 
-module _ (mode : Mode) (t : Text) (accepted : verdict Simple t ≡ Accepted) where
+module _ (mode : Mode) (t : Text) (accepted : verdict Simple t ≡ Ok tt) where
   abbrev sound : Sound Simple t
   sound = accepted_sound Simple t accepted
 
@@ -226,7 +226,7 @@ module _ (mode : Mode) (stream breaks marks : List ℕ) (short : length stream �
 
 -- "The simple parser's clusters start where UAX #29 has a grapheme cluster boundary, its emoji mark being read as
 -- Extended_Pictographic"; "the boundary at the text's start belongs to the answer and the one at its end does not" (SCOPE 8.2).
-pub clusters_plain : (mode : Mode) (t : Text) → verdict Simple t ≡ Accepted → is_plain mode t ≡ true → cluster_starts mode t ≡ boundaries t.records.breaks t.records.semojis
+pub clusters_plain : (mode : Mode) (t : Text) → verdict Simple t ≡ Ok tt → is_plain mode t ≡ true → cluster_starts mode t ≡ boundaries t.records.breaks t.records.semojis
 unfolding is_plain
 clusters_plain mode t accepted plain =
     let stream : List ℕ = stream_of mode Simple t in

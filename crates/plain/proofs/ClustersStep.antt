@@ -1,5 +1,6 @@
 -- The stepping call on a plain text: from every boundary of UAX #29 it goes to the next one, or to the end.
 -- Assumes nothing.
+use Rattle.std.specs.Prelude.{Ok}
 use Prim.Native.Nat.{ℕ, zero, suc, ◌+◌, ◌<◌, ◌≤◌}
 use mathlib.Core.Path.{◌≡◌, sym, ◌∙◌, subst}
 use mathlib.Core.Bool.{true, false≢true}
@@ -16,7 +17,6 @@ use Rattle.classes.specs.declared.Mode.{Mode}
 use Rattle.records.specs.Text.{Text}
 use Rattle.records.specs.Refusals.{verdict}
 use Rattle.records.specs.declared.Parser.TheVariants.{Simple}
-use Rattle.records.specs.declared.Verdict.TheVariants.{Accepted}
 use Rattle.stream.specs.Stream.{stream_of}
 use Rattle.parse.specs.declared.Parse.{Parse}
 use Rattle.parse.specs.State.{place_of}
@@ -57,7 +57,7 @@ module _ (mode : Mode) (stream breaks marks : List ℕ) (short : length stream �
 abbrev pub Leads : List ℕ → List ℕ → ℕ → ℕ → Type 0
 Leads breaks marks place next = (place < next) × Joined (boundary_at breaks marks) place next × (next < length breaks → boundary_at breaks marks next ≡ true)
 
-module _ (mode : Mode) (t : Text) (accepted : verdict Simple t ≡ Accepted) (plain : is_plain mode t ≡ true) (place : ℕ) (inside : place < length t.records.breaks) (here : boundary_at t.records.breaks t.records.semojis place ≡ true) where
+module _ (mode : Mode) (t : Text) (accepted : verdict Simple t ≡ Ok tt) (plain : is_plain mode t ≡ true) (place : ℕ) (inside : place < length t.records.breaks) (here : boundary_at t.records.breaks t.records.semojis place ≡ true) where
   abbrev breaks : List ℕ
   breaks = t.records.breaks
 

@@ -1,5 +1,6 @@
 -- On plain word texts (SCOPE 8.1) "the word run writes 1 where UAX #29 has a word boundary" (8.2).
 -- Assumes nothing.
+use Rattle.std.specs.Prelude.{Ok, Some, None}
 use Prim.Native.Nat.{ℕ, zero, suc, ◌+◌, ◌-◌, ◌<◌, ◌≤◌}
 use mathlib.Core.Path.{◌≡◌, refl, sym, ◌∙◌, ap, subst}
 use mathlib.Core.Bool.{Bool, true, false, cond, not, ◌&&◌, and-false, or-false}
@@ -15,20 +16,18 @@ use Rattle.basics.proofs.Tests.{both}
 use Rattle.basics.specs.Sets.{member}
 use Rattle.classes.specs.WordBreak.{HL, NU, RI}
 use Rattle.records.specs.Text.{cell}
-use Rattle.records.specs.declared.Verdict.TheVariants.{Accepted}
 use Rattle.words.specs.declared.WordStep.{WordStep}
-use Rattle.words.specs.declared.Next.TheVariants.{Class, End}
 use Rattle.words.specs.Rules.{exit_of, leaves, told}
 use Rattle.words.specs.Run.{next_at, step_from, state_at, answer_at, answers, run_verdict, run_cells}
 use Rattle.uax29.specs.Words.{newlines, ignored, boundary_at, boundaries}
 use Rattle.uax29.specs.declared.words.Seen.{Seen}
-use Rattle.uax29.specs.WordsSeen.{decided, from_WB1, after, seen_at, ahead}
+use Rattle.uax29.specs.WordsSeen.{decided, from_WB1, from_WB3, after, seen_at, ahead}
 use Rattle.uax29.proofs.WordsWalk.{ahead_here, ahead_none, boundary_is}
 use Rattle.plain.specs.Words.{plain_word_at, is_plain_words}
 use Rattle.plain.proofs.WordsStep.{Looks, held, count_of, machine, seen_past, told_same, step_right}
 
 -- the look-ahead
-looks_under : (words : List ℕ) (i : ℕ) (there : Bool) → ltb i (length words) ≡ there → Looks (cond there (Class (cell words i)) End) (cell words i)
+looks_under : (words : List ℕ) (i : ℕ) (there : Bool) → ltb i (length words) ≡ there → Looks (cond there (Some (cell words i)) None) (cell words i)
 looks_under words i true e = record { letter = refl; hebrew = or-false (eqb (cell words i) HL); number = or-false (eqb (cell words i) NU) }
 looks_under words i false e =
     let z : cell words i ≡ 0 = get_or-eq_default words 0 (ltb-false _ _ e) in
@@ -68,7 +67,7 @@ module _ (words pictographs : List ℕ) (plain : is_plain_words words ≡ true) 
       (cond (decided q (cell words i) (cell pictographs i) (cell words (i + 1))) 1 0)
 
   step_at : (i : ℕ) → i < length words → step_from words pictographs (machine (seen_at words i) (cell words i)) i ≡ Told (seen_at words i) i
-  unfolding seen_at exit_of leaves decided from_WB1
+  unfolding seen_at exit_of leaves decided from_WB1 from_WB3
   step_at zero l = told_same (cell words 0) _ _ _ _ _ _ (simp and-false) (begun_count (eqb (cell words 0) RI)) refl
   step_at (suc i) l =
       let before = plain_at_lem i (omega arith) in
@@ -99,5 +98,5 @@ module _ (words pictographs : List ℕ) (plain : is_plain_words words ≡ true) 
   pub words_plain : answers words pictographs (length words) ≡ boundaries words pictographs (length words)
   words_plain = cells_same (answer_at words pictographs) (boundary_at words pictographs) (length words) answer_plain
 
-  pub word_run_plain : (out : List ℕ) → run_verdict words pictographs (length out) ≡ Accepted → run_cells words pictographs out ≡ boundaries words pictographs (length words) ++ drop (length words) out
+  pub word_run_plain : (out : List ℕ) → run_verdict words pictographs (length out) ≡ Ok tt → run_cells words pictographs out ≡ boundaries words pictographs (length words) ++ drop (length words) out
   word_run_plain out e = rw (e, words_plain)

@@ -1,5 +1,6 @@
 -- One step of the word machine at a record of a plain text: the rules give the same answer, and the state that it leaves says what they
 -- see. Exit by exit: each names the classes on the two sides, and for those the rules compute. Assumes nothing.
+use Rattle.std.specs.Prelude.{Some, is_none}
 use Prim.Native.Nat.{ℕ, ◌+◌}
 use mathlib.Core.Path.{◌≡◌, refl, sym, ◌∙◌, ap}
 use mathlib.Core.Bool.{Bool, true, false, cond, not, ◌&&◌, ◌||◌, and-false, true≢false}
@@ -12,20 +13,19 @@ use Rattle.basics.specs.Sets.{member}
 use Rattle.classes.specs.WordBreak.{CR, LF, Extend, ZWJ, FO, WSegSpace, ALetter, HL, NU, SQ, DQ, KA, EX, RI}
 use Rattle.words.specs.declared.WordState.{WordState}
 use Rattle.words.specs.declared.WordStep.{WordStep}
-use Rattle.words.specs.declared.Next.{Next}
+use Rattle.words.specs.Next.{Next}
 use Rattle.words.specs.declared.Exit.{Exit}
 use Rattle.words.specs.declared.Exit.TheVariants.{Released, Joined, Parted, Ignored, Held, Opened, Paired}
 use Rattle.words.specs.Rules.{next_in, flag_rules, number_rules, letter_rules, pair_rules, exit_of, leaves, ruled, told}
 use Rattle.uax29.specs.Words.{AHLetter, newlines, ignored, mid_letters, mid_numbers, extendable, extended}
 use Rattle.uax29.specs.declared.words.Seen.{Seen}
-use Rattle.uax29.specs.declared.words.Set.TheVariants.{Only, Letters, MidLetters, MidNumbers}
-use Rattle.uax29.specs.WordsSeen.{holds, both, from_WB1, from_WB3c, from_WB5, from_WB7a, from_WB8, from_WB13, from_WB15, decided}
+use Rattle.uax29.specs.WordsSeen.{from_WB1, from_WB3, from_WB3c, from_WB5, from_WB7a, from_WB8, from_WB13, from_WB15, decided}
 
 -- WB7, WB7c, WB11: what the machine knows by prevent-next
 abbrev pub held : ℕ → ℕ → ℕ → Bool
 held far near b =
-    (both MidLetters near Letters far && holds Letters b)
-    || ((both (Only DQ) near (Only HL) far && holds (Only HL) b) || (both MidNumbers near (Only NU) far && holds (Only NU) b))
+    ((member mid_letters near && member AHLetter far) && member AHLetter b)
+    || (((eqb near DQ && eqb far HL) && eqb b HL) || ((member mid_numbers near && eqb far NU) && eqb b NU))
 
 -- the machine's count: 1 where an odd number of RI stands before, 2 where an even one does
 abbrev pub count_of : ℕ → Bool → ℕ
@@ -33,11 +33,11 @@ count_of near odd = cond (eqb near RI) (cond odd 1 2) 0
 
 -- the machine's state before a record of class b
 abbrev pub machine : Seen → ℕ → WordState
-machine q b = record { first = q.none; previous = q.near; prevent = held q.far q.near b; count = count_of q.near q.odd }
+machine q b = record { first = is_none q.last; previous = q.near; prevent = held q.far q.near b; count = count_of q.near q.odd }
 
 -- what is seen after a character that WB4 does not ignore
 abbrev pub seen_past : ℕ → Bool → ℕ → Seen
-seen_past far odd a = record { none = false; last = a; near = a; far = far; odd = eqb a RI && not odd }
+seen_past far odd a = record { last = Some a; near = a; far = far; odd = eqb a RI && not odd }
 
 -- the look-ahead sees class c, or none and c is Other
 pub record Looks (next : Next) (c : ℕ) : Type 0 where
@@ -110,31 +110,31 @@ module _ (o : Bool) (p c : ℕ) where
 
   module _ (far a b : ℕ) where
     newlines_exit : (eqb a CR && eqb b LF) ≡ true → Joins far a b
-    unfolding decided from_WB1
+    unfolding decided from_WB1 from_WB3
     newlines_exit h = pair_case (Joins far) CR LF a b h refl
 
     held_newline : member newlines a ≡ true → held a b c ≡ false
     held_newline h = in_case (λ x. held x b c ≡ false) newlines a h (simp and-false, (simp and-false, (simp and-false, tt)))
 
     parted_exit : (eqb a CR && eqb b LF) ≡ false → (member newlines a && eqb b RI) ≡ false → (member newlines a || member newlines b) ≡ true → told b false 0 1 ≡ Right far a b
-    unfolding decided from_WB1
+    unfolding decided from_WB1 from_WB3
     parted_exit n plain h =
         either_case (told b false 0 1 ≡ Right far a b) (member newlines a) (member newlines b) h
         (λ ha. told_same b _ _ _ _ _ _ (held_newline ha) (let k : eqb b RI ≡ false = rw ha at plain in rw k) (rw (n, ha)))
         (λ ha hb. told_same b _ _ _ _ _ _ (in_case (λ y. held a y c ≡ false) newlines b hb (refl, (refl, (refl, tt)))) (in_case (λ y. count_of y (eqb y RI && not (eqb a RI && not o)) ≡ 0) newlines b hb (refl, (refl, (refl, tt)))) (rw (n, ha, hb)))
 
     space_exit : (eqb a WSegSpace && eqb b WSegSpace) ≡ true → Joins far a b
-    unfolding decided from_WB1 from_WB3c
+    unfolding decided from_WB1 from_WB3 from_WB3c
     space_exit h = pair_case (Joins far) WSegSpace WSegSpace a b h refl
 
     letter_exit : (member AHLetter a && member (NU ∷ AHLetter) b) ≡ true → Joins far a b
-    unfolding decided from_WB1 from_WB3c from_WB5 from_WB7a from_WB8
+    unfolding decided from_WB1 from_WB3 from_WB3c from_WB5 from_WB7a from_WB8
     letter_exit h =
         let k = and_both (member AHLetter a) (member (NU ∷ AHLetter) b) h in
         set_case (Joins far) AHLetter (NU ∷ AHLetter) a b k.0 k.1 ((refl, (refl, (refl, tt))), ((refl, (refl, (refl, tt))), tt))
 
     mid_letter_exit : (member AHLetter a && (member mid_letters b && member AHLetter c)) ≡ true → Holds far a b
-    unfolding decided from_WB1 from_WB3c from_WB5
+    unfolding decided from_WB1 from_WB3 from_WB3c from_WB5
     mid_letter_exit h =
         let k = and_both (member AHLetter a) (member mid_letters b && member AHLetter c) h in
         let l = and_both (member mid_letters b) (member AHLetter c) k.1 in
@@ -142,12 +142,12 @@ module _ (o : Bool) (p c : ℕ) where
         set_case (Holds far) AHLetter mid_letters a b k.0 l.0 ((rw e, (rw e, (rw e, tt))), ((rw e, (rw e, (rw e, tt))), tt))
 
     hebrew_single_exit : (eqb a HL && eqb b SQ) ≡ true → (member AHLetter a && (member mid_letters b && member AHLetter c)) ≡ false → Joins far a b
-    unfolding decided from_WB1 from_WB3c from_WB5 from_WB7a
+    unfolding decided from_WB1 from_WB3 from_WB3c from_WB5 from_WB7a
     hebrew_single_exit h =
         pair_case (λ x y. (member AHLetter x && (member mid_letters y && member AHLetter c)) ≡ false → Joins far x y) HL SQ a b h (λ n. rw n)
 
     hebrew_double_exit : (eqb a HL && (eqb b DQ && eqb c HL)) ≡ true → Holds far a b
-    unfolding decided from_WB1 from_WB3c from_WB5 from_WB7a
+    unfolding decided from_WB1 from_WB3 from_WB3c from_WB5 from_WB7a
     hebrew_double_exit h =
         let k = and_both (eqb a HL) (eqb b DQ && eqb c HL) h in
         let l = and_both (eqb b DQ) (eqb c HL) k.1 in
@@ -155,13 +155,13 @@ module _ (o : Bool) (p c : ℕ) where
         eq_case (λ x. Holds far x b) a HL k.0 (eq_case (Holds far HL) b DQ l.0 (rw e))
 
     number_exit : (eqb a NU && member (NU ∷ AHLetter) b) ≡ true → Joins far a b
-    unfolding decided from_WB1 from_WB3c from_WB5 from_WB7a from_WB8
+    unfolding decided from_WB1 from_WB3 from_WB3c from_WB5 from_WB7a from_WB8
     number_exit h =
         let k = and_both (eqb a NU) (member (NU ∷ AHLetter) b) h in
         eq_case (λ x. Joins far x b) a NU k.0 (in_case (Joins far NU) (NU ∷ AHLetter) b k.1 (refl, (refl, (refl, tt))))
 
     mid_number_exit : (eqb a NU && (member mid_numbers b && eqb c NU)) ≡ true → Holds far a b
-    unfolding decided from_WB1 from_WB3c from_WB5 from_WB7a from_WB8
+    unfolding decided from_WB1 from_WB3 from_WB3c from_WB5 from_WB7a from_WB8
     mid_number_exit h =
         let k = and_both (eqb a NU) (member mid_numbers b && eqb c NU) h in
         let l = and_both (member mid_numbers b) (eqb c NU) k.1 in
@@ -169,36 +169,36 @@ module _ (o : Bool) (p c : ℕ) where
         eq_case (λ x. Holds far x b) a NU k.0 (in_case (Holds far NU) mid_numbers b l.0 (rw e, (rw e, (rw e, tt))))
 
     katakana_exit : (eqb a KA && eqb b KA) ≡ true → Joins far a b
-    unfolding decided from_WB1 from_WB3c from_WB5 from_WB7a from_WB8 from_WB13
+    unfolding decided from_WB1 from_WB3 from_WB3c from_WB5 from_WB7a from_WB8 from_WB13
     katakana_exit h = pair_case (Joins far) KA KA a b h refl
 
     to_extender_exit : (eqb b EX && member extended a) ≡ true → Joins far a b
-    unfolding decided from_WB1 from_WB3c from_WB5 from_WB7a from_WB8 from_WB13
+    unfolding decided from_WB1 from_WB3 from_WB3c from_WB5 from_WB7a from_WB8 from_WB13
     to_extender_exit h =
         let k = and_both (eqb b EX) (member extended a) h in
         eq_case (Joins far a) b EX k.0 (in_case (λ x. Joins far x EX) extended a k.1 (refl, (refl, (refl, (refl, (refl, tt))))))
 
     from_extender_exit : (eqb a EX && member extendable b) ≡ true → Joins far a b
-    unfolding decided from_WB1 from_WB3c from_WB5 from_WB7a from_WB8 from_WB13
+    unfolding decided from_WB1 from_WB3 from_WB3c from_WB5 from_WB7a from_WB8 from_WB13
     from_extender_exit h =
         let k = and_both (eqb a EX) (member extendable b) h in
         eq_case (λ x. Joins far x b) a EX k.0 (in_case (Joins far EX) extendable b k.1 (refl, (refl, (refl, (refl, tt)))))
 
   released_exit : (far a b : ℕ) → held far a b ≡ true → Releases far a b
-  unfolding decided from_WB1 from_WB3c from_WB5 from_WB7a from_WB8
+  unfolding decided from_WB1 from_WB3 from_WB3c from_WB5 from_WB7a from_WB8
   released_exit far a b h =
-      either_case (Releases far a b) (both MidLetters a Letters far && holds Letters b) _ h
-      (λ l. let k = and_both (both MidLetters a Letters far) (holds Letters b) l in
-      let m = and_both (holds MidLetters a) (holds Letters far) k.0 in
+      either_case (Releases far a b) ((member mid_letters a && member AHLetter far) && member AHLetter b) _ h
+      (λ l. let k = and_both (member mid_letters a && member AHLetter far) (member AHLetter b) l in
+      let m = and_both (member mid_letters a) (member AHLetter far) k.0 in
       in_case (λ w. Releases w a b) AHLetter far m.1 (
         set_case (Releases ALetter) mid_letters AHLetter a b m.0 k.1 ((refl, (refl, tt)), ((refl, (refl, tt)), ((refl, (refl, tt)), tt))),
         (set_case (Releases HL) mid_letters AHLetter a b m.0 k.1 ((refl, (refl, tt)), ((refl, (refl, tt)), ((refl, (refl, tt)), tt))), tt),
       ))
-      (λ n r. either_case (Releases far a b) (both (Only DQ) a (Only HL) far && holds (Only HL) b) _ r
-      (λ l. let k = and_both (both (Only DQ) a (Only HL) far) (holds (Only HL) b) l in
+      (λ n r. either_case (Releases far a b) ((eqb a DQ && eqb far HL) && eqb b HL) _ r
+      (λ l. let k = and_both (eqb a DQ && eqb far HL) (eqb b HL) l in
       pair_case (λ x w. Releases w x b) DQ HL a far k.0 (eq_case (Releases HL DQ) b HL k.1 refl))
-      (λ n' l. let k = and_both (both MidNumbers a (Only NU) far) (holds (Only NU) b) l in
-      let m = and_both (holds MidNumbers a) (holds (Only NU) far) k.0 in
+      (λ n' l. let k = and_both (member mid_numbers a && eqb far NU) (eqb b NU) l in
+      let m = and_both (member mid_numbers a) (eqb far NU) k.0 in
       eq_case (λ w. Releases w a b) far NU m.1 (eq_case (Releases NU a) b NU k.1 (in_case (λ x. Releases NU x NU) mid_numbers a m.0 (refl, (refl, (refl, tt)))))))
 
   -- where no exit above those of RI is taken
@@ -207,13 +207,13 @@ module _ (o : Bool) (p c : ℕ) where
       (n8 : (eqb a HL && eqb b SQ) ≡ false) (n9 : (eqb a HL && (eqb b DQ && eqb c HL)) ≡ false) (n10 : (eqb a NU && member (NU ∷ AHLetter) b) ≡ false) (n11 : (eqb a NU && (member mid_numbers b && eqb c NU)) ≡ false)
       (n12 : (eqb a KA && eqb b KA) ≡ false) (n13 : (eqb b EX && member extended a) ≡ false) (n14 : (eqb a EX && member extendable b) ≡ false) where
     decided_last : decided (seen_past far o a) b p c ≡ cond (eqb b RI) (not (eqb a RI && not o)) true
-    unfolding decided from_WB1 from_WB3c from_WB5 from_WB7a from_WB8 from_WB13 from_WB15
+    unfolding decided from_WB1 from_WB3 from_WB3c from_WB5 from_WB7a from_WB8 from_WB13 from_WB15
     decided_last =
         let by-newline = neither (member newlines a) (member newlines b) n2 in
         let letters = spread (member AHLetter a) (eqb b NU) (member AHLetter b) n6 in
         let numbers = spread (eqb a NU) (eqb b NU) (member AHLetter b) n10 in
-        let wb7 = neither (both MidLetters a Letters far && holds Letters b) ((both (Only DQ) a (Only HL) far && holds (Only HL) b) || (both MidNumbers a (Only NU) far && holds (Only NU) b)) nh in
-        let wb7c = neither (both (Only DQ) a (Only HL) far && holds (Only HL) b) (both MidNumbers a (Only NU) far && holds (Only NU) b) wb7.1 in
+        let wb7 = neither ((member mid_letters a && member AHLetter far) && member AHLetter b) (((eqb a DQ && eqb far HL) && eqb b HL) || ((member mid_numbers a && eqb far NU) && eqb b NU)) nh in
+        let wb7c = neither ((eqb a DQ && eqb far HL) && eqb b HL) ((member mid_numbers a && eqb far NU) && eqb b NU) wb7.1 in
         rw (n1, by-newline.0, by-newline.1, n3, n5, n4, letters.1, n7, wb7.0, n8, n9, wb7c.0, numbers.0, letters.0, numbers.1, wb7c.1, n11, n12, swapped (eqb b EX) (member extended a) n13, n14)
 
     held_none : held a b c ≡ false

@@ -1,15 +1,14 @@
 -- Where the simple parser's clusters and the word run's words are not those of UAX #29: for each rule that they do not follow a smallest
 -- text, none of them plain, with the places where they start and those where the boundaries of the GB or Wb rules stand. And a few
 -- plain texts, where they are the same.
-use Rattle.std.specs.Prelude.{ℕ, Bool, true, false, not, ◌&&◌, ◌||◌, List, [], ◌∷◌, ◌++◌, map, length, replicate, eqb}
+use Rattle.std.specs.Prelude.{ℕ, Bool, true, false, not, ◌&&◌, ◌||◌, List, [], ◌∷◌, ◌++◌, map, length, replicate, eqb, Ok}
 use Rattle.classes.specs.ClusterBreak.{XX, CN, CR, LF, L, «V», T, LV, LVT, RI, EX, SM, ZWJ, PP}
 use Rattle.classes.specs.WordBreak as W
 use Rattle.classes.specs.declared.Mode.TheVariants.{Crate, Whole}
 use Rattle.records.specs.Text.{Text, text_of, cell}
 use Rattle.records.specs.Refusals.{verdict, word_verdict}
 use Rattle.records.specs.declared.Parser.TheVariants.{Simple}
-use Rattle.records.specs.declared.Verdict.{Verdict}
-use Rattle.records.specs.declared.Verdict.TheVariants.{Accepted}
+use Rattle.records.specs.Verdict.{Verdict}
 use Rattle.words.specs.Run.{answers}
 use Rattle.uax29.specs.Clusters.{places_from, boundaries}
 use Rattle.uax29.specs.Words as Wb
@@ -154,7 +153,7 @@ abbrev pub Facts : Type 0
 Facts = Verdict × Bool × Bool × List ℕ × List ℕ × List ℕ × Bool
 
 abbrev told : Bool → Bool → Case → Facts
-told plain differ c = (Accepted, plain, plain, c.crate, c.whole, c.annex, differ)
+told plain differ c = ((Ok tt), plain, plain, c.crate, c.whole, c.annex, differ)
 
 abbrev same : List ℕ → List ℕ → Bool
 same [] [] = true

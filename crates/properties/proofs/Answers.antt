@@ -1,4 +1,5 @@
 -- What the lookup promises. Assumes nothing.
+use Rattle.std.specs.Prelude.{Ok}
 use Prim.Native.Nat.{ℕ, zero, suc, ◌+◌, ◌<◌, ◌≤◌, min}
 use mathlib.Core.Path.{◌≡◌, refl, sym, ◌∙◌, ap}
 use mathlib.Core.Bool.{Bool, true, false}
@@ -17,8 +18,7 @@ use Rattle.records.specs.Text.{cell}
 use Rattle.records.specs.Refusals.{refuse, ◌⊳◌, over}
 use Rattle.records.specs.Offences.{ByTable}
 use Rattle.records.specs.declared.Side.TheVariants.{Neither}
-use Rattle.records.specs.declared.Verdict.{Verdict}
-use Rattle.records.specs.declared.Verdict.TheVariants.{Accepted}
+use Rattle.records.specs.Verdict.{Verdict}
 use Rattle.records.proofs.Tables.{by_table}
 use Rattle.records.proofs.Judged.{alone, over_same}
 use Rattle.records.proofs.Unique.{unique}
@@ -92,11 +92,11 @@ in_no_range r scalar f = no_hit r scalar (count r) 0 (λ k a b. f k (omega arith
 
 -- what stands in a class column afterwards: the class of each scalar, and behind the text what stood there
 module _ (r : Ranges) (scalars out : List ℕ) where
-  pub class_cell : (i : ℕ) → i < length scalars → cell (filled Accepted r scalars out) i ≡ code_in r (cell scalars i)
+  pub class_cell : (i : ℕ) → i < length scalars → cell (filled (Ok tt) r scalars out) i ≡ code_in r (cell scalars i)
   unfolding class_at
   class_cell i h = written_cell (class_at r scalars) out (length scalars) i h
 
-  pub kept : (k : ℕ) → cell (filled Accepted r scalars out) (length scalars + k) ≡ cell out (length scalars + k)
+  pub kept : (k : ℕ) → cell (filled (Ok tt) r scalars out) (length scalars + k) ≡ cell out (length scalars + k)
   kept k = kept_cell (class_at r scalars) out (length scalars) k
 
 -- The lookup's refusals: 3 of each scalar by rising index, then 9.
@@ -105,8 +105,8 @@ unfolding lookup_verdict judge_scalar over
 lookup_by_table scalars breaks words =
     by_table _ (lookup_table scalars breaks words) (record { before = refl; parts = λ i. refl; records = λ i. refl; after = refl })
     (lookup_verdict scalars breaks words)
-    (ap (λ o. o ⊳ refuse (ltb (min breaks words) (length scalars)) 9 Neither 0) (over_same judge (λ i. judge i ⊳ Accepted) (λ i. sym (alone (judge i))) (length scalars) 0)
-    ∙ ap (λ v. over (λ i. judge i ⊳ Accepted) 0 (length scalars) ⊳ v) (sym (alone (refuse (ltb (min breaks words) (length scalars)) 9 Neither 0))))
+    (ap (λ o. o ⊳ refuse (ltb (min breaks words) (length scalars)) 9 Neither 0) (over_same judge (λ i. judge i ⊳ (Ok tt)) (λ i. sym (alone (judge i))) (length scalars) 0)
+    ∙ ap (λ v. over (λ i. judge i ⊳ (Ok tt)) 0 (length scalars) ⊳ v) (sym (alone (refuse (ltb (min breaks words) (length scalars)) 9 Neither 0))))
   where
     judge : ℕ → Verdict
     judge i = judge_scalar (cell scalars i) i

@@ -1,4 +1,5 @@
 -- Reading two blocks one after the other is reading them at once, where no line is cut. Assumes nothing.
+use Rattle.std.specs.Prelude.{Ok, Err}
 use Prim.Native.Nat.{ℕ, zero, suc, ◌+◌, ◌-◌, ◌<◌, ◌≤◌}
 use mathlib.Core.Path.{◌≡◌, refl, sym, ◌∙◌, ap, subst}
 use mathlib.Core.Bool.{Bool, true, false, cond, ◌||◌}
@@ -16,8 +17,7 @@ use Rattle.cases.proofs.Splits.{count_bound}
 use Rattle.records.specs.Refusals.{refusal, refuse, ◌⊳◌, over}
 use Rattle.records.specs.declared.Side.TheVariants.{Neither}
 use Rattle.records.specs.declared.Refusal.{Refusal}
-use Rattle.records.specs.declared.Verdict.{Verdict}
-use Rattle.records.specs.declared.Verdict.TheVariants.{Accepted, Refused}
+use Rattle.records.specs.Verdict.{Verdict}
 use Rattle.records.proofs.Judged.{alone}
 use Rattle.records.proofs.Verdicts.{never, each_over}
 use Rattle.properties.specs.declared.File.{File}
@@ -200,8 +200,8 @@ said_joined file a b w =
 
 -- the same refusal n lines further on
 abbrev pub raised : ℕ → Verdict → Verdict
-raised n Accepted = Accepted
-raised n (Refused x) = Refused (refusal x.number x.side (n + x.index))
+raised n (Ok _) = Ok tt
+raised n (Err x) = Err (refusal x.number x.side (n + x.index))
 
 over_split : (judge : ℕ → Verdict) (n m i : ℕ) → over judge i (n + m) ≡ over judge i n ⊳ over judge (i + n) m
 unfolding over
@@ -212,8 +212,8 @@ over_split judge (suc n) m i =
     rw e (go (judge i) (over_split judge n m (i + 1) ∙ ap (λ j. over judge (i + 1) n ⊳ over judge j m) f))
   where
     go : (v : Verdict) → over judge (i + 1) (n + m) ≡ over judge (i + 1) n ⊳ over judge (i + suc n) m → v ⊳ over judge (i + 1) (n + m) ≡ (v ⊳ over judge (i + 1) n) ⊳ over judge (i + suc n) m
-    go Accepted e = e
-    go (Refused x) e = refl
+    go (Ok _) e = e
+    go (Err x) e = refl
 
 over_raised : (f g : ℕ → Verdict) (n : ℕ) → ((k : ℕ) → f (n + k) ≡ raised n (g k)) → (m i : ℕ) → over f (n + i) m ≡ raised n (over g i m)
 unfolding over
@@ -223,23 +223,23 @@ over_raised f g n e (suc m) i =
     rw (h, e i, over_raised f g n e m (i + 1)) (go (g i))
   where
     go : (v : Verdict) → raised n v ⊳ raised n (over g (i + 1) m) ≡ raised n (v ⊳ over g (i + 1) m)
-    go Accepted = refl
-    go (Refused x) = refl
+    go (Ok _) = refl
+    go (Err x) = refl
 
 -- of ranges that the same ranges meet, and as many, it says the same
 module _ (xs ys : List Held) (cells n k : ℕ) (s : (f l : ℕ) → met f l xs ≡ met f l ys) (e : length xs ≡ length ys) where
   judge_raised : (x : Ruling) → judge_ruling x xs cells (n + k + 1) ≡ raised n (judge_ruling x ys cells (k + 1))
   judge_raised Ruling.Nothing = refl
-  judge_raised (Ruling.Refused refused) = ap (λ i. Refused (refusal refused Neither i)) (add_assoc n k 1)
+  judge_raised (Ruling.Refused refused) = ap (λ i. Err (refusal refused Neither i)) (add_assoc n k 1)
   judge_raised (Ruling.Range first last code) = rw (s first last, e) (go (met first last ys) (leb cells (length ys)))
     where
       go : (a b : Bool) → refuse a 13 Neither (n + k + 1) ⊳ refuse b 14 Neither (n + k + 1) ≡ raised n (refuse a 13 Neither (k + 1) ⊳ refuse b 14 Neither (k + 1))
-      go true b = ap (λ i. Refused (refusal 13 Neither i)) (add_assoc n k 1)
-      go false true = ap (λ i. Refused (refusal 14 Neither i)) (add_assoc n k 1)
+      go true b = ap (λ i. Err (refusal 13 Neither i)) (add_assoc n k 1)
+      go false true = ap (λ i. Err (refusal 14 Neither i)) (add_assoc n k 1)
       go false false = refl
 
 -- a line past the bytes
-past_accepted : (file : File) (r : Ranges) (x : List ℕ) (k : ℕ) → length x ≤ k → judge_line file r x k ≡ Accepted
+past_accepted : (file : File) (r : Ranges) (x : List ℕ) (k : ℕ) → length x ≤ k → judge_line file r x k ≡ Ok tt
 unfolding judge_line
 past_accepted file r x k h = rw (past_nothing file x k h)
 
@@ -253,14 +253,14 @@ module _ (file : File) (r : Ranges) (a b : List ℕ) (w : Whole a) where
   unfolding judge_line
   judge_first k h = rw (span_first a b k h, said_first file a b k (omega arith))
 
-  behind_accepted : (k : ℕ) → judge_line file r a (count 10 a + k) ≡ Accepted
+  behind_accepted : (k : ℕ) → judge_line file r a (count 10 a + k) ≡ Ok tt
   unfolding judge_line
   behind_accepted k =
       let e : ruling_of file (span 10 (count 10 a + k) a) ≡ Ruling.Nothing =
       subst (λ (x : List ℕ). ruling_of file (span 10 (count 10 a + k) x) ≡ Ruling.Nothing) (append-nil a) (ap (ruling_of file) (span_behind a [] w k) ∙ past_nothing file [] k (omega arith)) in
       rw e
 
-  refused_within : (k : ℕ) (x : Refusal) → judge_line file r a k ≡ Refused x → k < count 10 a
+  refused_within : (k : ℕ) (x : Refusal) → judge_line file r a k ≡ Err x → k < count 10 a
   refused_within k x e =
       by_test (ltb k (count 10 a)) (λ t. ltb-true k (count 10 a) t)
       (λ t.
@@ -286,13 +286,13 @@ module _ (file : File) (r : Ranges) (a b : List ℕ) (w : Whole a) where
         ))
 
     -- where the first block is refused, both together are, with the same refusal, and nothing changes
-    pub blocks_refused : (x : Refusal) → read_verdict file r a ≡ Refused x → (read_verdict file r (a ++ b) ≡ Refused x) × (read_ranges file r (a ++ b) ≡ r)
+    pub blocks_refused : (x : Refusal) → read_verdict file r a ≡ Err x → (read_verdict file r (a ++ b) ≡ Err x) × (read_ranges file r (a ++ b) ≡ r)
     blocks_refused x e =
-        let f : read_verdict file r (a ++ b) ≡ Refused x = read_refused_only file r (a ++ b) x (joined_cause x (read_refused_first file r a x e)) in
+        let f : read_verdict file r (a ++ b) ≡ Err x = read_refused_only file r (a ++ b) x (joined_cause x (read_refused_first file r a x e)) in
         (f, refused_keeps file r (a ++ b) x f)
 
   -- where it is accepted, the lines of the second are judged over what the first has left
-  module _ (accepted : read_verdict file r a ≡ Accepted) where
+  module _ (accepted : read_verdict file r a ≡ Ok tt) where
     passed : Passed file r a
     passed = accepted_passed file r a accepted
 
@@ -355,7 +355,7 @@ module _ (file : File) (r : Ranges) (a b : List ℕ) (w : Whole a) where
           lines_joined
 
       -- what refuses the second is a line, so that its number is not 0
-      pub blocks_number : (x : Refusal) → read_verdict file (read_ranges file r a) b ≡ Refused x → 0 < x.index
+      pub blocks_number : (x : Refusal) → read_verdict file (read_ranges file r a) b ≡ Err x → 0 < x.index
       blocks_number x e = go (read_refused_first file (read_ranges file r a) b x e)
         where
           go : Cause file (read_ranges file r a) b x → 0 < x.index
@@ -364,11 +364,11 @@ module _ (file : File) (r : Ranges) (a b : List ℕ) (w : Whole a) where
           go (inr (inr (s, h, k, f))) = omega (arith, line_number file (read_ranges file r a) b k x f.refused)
 
       -- where the second is refused, the two at once change nothing, while one after the other the first has been read
-      pub blocks_late : (x : Refusal) → read_verdict file (read_ranges file r a) b ≡ Refused x → read_ranges file r (a ++ b) ≡ r
+      pub blocks_late : (x : Refusal) → read_verdict file (read_ranges file r a) b ≡ Err x → read_ranges file r (a ++ b) ≡ r
       blocks_late x e = refused_keeps file r (a ++ b) _ (blocks_verdict ∙ ap (raised (count 10 a)) e)
 
       -- "reading two blocks one after the other is reading them at once where no line is cut": where both are accepted
-      pub blocks_ranges : read_verdict file (read_ranges file r a) b ≡ Accepted → read_ranges file r (a ++ b) ≡ read_ranges file (read_ranges file r a) b
+      pub blocks_ranges : read_verdict file (read_ranges file r a) b ≡ Ok tt → read_ranges file r (a ++ b) ≡ read_ranges file (read_ranges file r a) b
       blocks_ranges e =
           let more : length (held_now file r a) ≤ length (held_now file (read_ranges file r a) b) =
           omega (arith, put_all_length (held_of (read_ranges file r a)) (said file b (line_count b)), ap length (held_after file r a accepted)) in
@@ -381,16 +381,16 @@ module _ (file : File) (r : Ranges) (a b : List ℕ) (w : Whole a) where
           ∙ sym (read_stored file (read_ranges file r a) b e)
 
 -- what is accepted at once is accepted one block after the other
-pub blocks_accepted : (file : File) (r : Ranges) (a b : List ℕ) → Whole a → read_verdict file r (a ++ b) ≡ Accepted → (read_verdict file r a ≡ Accepted) × (read_verdict file (read_ranges file r a) b ≡ Accepted)
+pub blocks_accepted : (file : File) (r : Ranges) (a b : List ℕ) → Whole a → read_verdict file r (a ++ b) ≡ Ok tt → (read_verdict file r a ≡ Ok tt) × (read_verdict file (read_ranges file r a) b ≡ Ok tt)
 blocks_accepted file r a b w e = first (read_verdict file r a) refl
   where
     short : length (a ++ b) ≤ 65536
     short = (accepted_passed file r (a ++ b) e).short
 
-    second : (v : Verdict) → raised (count 10 a) v ≡ Accepted → v ≡ Accepted
-    second Accepted q = refl
-    second (Refused x) q = never q
+    second : (v : Verdict) → raised (count 10 a) v ≡ Ok tt → v ≡ Ok tt
+    second (Ok _) q = refl
+    second (Err x) q = never q
 
-    first : (v : Verdict) → read_verdict file r a ≡ v → (read_verdict file r a ≡ Accepted) × (read_verdict file (read_ranges file r a) b ≡ Accepted)
-    first Accepted h = (h, second (read_verdict file (read_ranges file r a) b) (sym (blocks_verdict file r a b w h short) ∙ e))
-    first (Refused x) h = never (sym (blocks_refused file r a b w short x h).0 ∙ e)
+    first : (v : Verdict) → read_verdict file r a ≡ v → (read_verdict file r a ≡ Ok tt) × (read_verdict file (read_ranges file r a) b ≡ Ok tt)
+    first (Ok _) h = (h, second (read_verdict file (read_ranges file r a) b) (sym (blocks_verdict file r a b w h short) ∙ e))
+    first (Err x) h = never (sym (blocks_refused file r a b w short x h).0 ∙ e)

@@ -1,4 +1,5 @@
 -- Lines and values of which docs/DECISIONS.md speaks, each computed. Assumes nothing.
+use Rattle.std.specs.Prelude.{Ok, Err, Some, None}
 use Prim.Native.Nat.{ℕ}
 use Prim.Native.String.{String}
 use mathlib.Core.Path.{◌≡◌, refl}
@@ -8,11 +9,9 @@ use Rattle.cases.specs.Numbers.{digit_of, number_from, number_of}
 use Rattle.cases.specs.Spans.{before, up_to, after, rest, span, agree, equal}
 use Rattle.records.specs.Refusals.{refusal, over}
 use Rattle.records.specs.declared.Side.TheVariants.{Neither}
-use Rattle.records.specs.declared.Verdict.{Verdict}
-use Rattle.records.specs.declared.Verdict.TheVariants.{Accepted, Refused}
+use Rattle.records.specs.Verdict.{Verdict}
 use Rattle.properties.specs.declared.File.TheVariants.{Cluster, Word}
-use Rattle.properties.specs.declared.Value.{Value}
-use Rattle.properties.specs.declared.Value.TheVariants.{Found, Unknown}
+use Rattle.properties.specs.Names.{Value}
 use Rattle.properties.specs.declared.Line.{Line}
 use Rattle.properties.specs.declared.Line.TheVariants.{Skipped, Malformed, Range}
 use Rattle.properties.specs.Rulings.{ruling_of}
@@ -71,15 +70,15 @@ cluster name = code_of Cluster (ascii name)
 word : String → Value
 word name = code_of Word (ascii name)
 
-values : (cluster "Control" ≡ Found 1)
-    × (cluster "CN" ≡ Unknown)
-    × (cluster "control" ≡ Unknown)
-    × (cluster "ALetter" ≡ Unknown)
-    × (word "ALetter" ≡ Found 8)
-    × (word "L" ≡ Unknown)
-    × (cluster "E_Base" ≡ Found 0)
-    × (word "Glue_After_Zwj" ≡ Found 0)
-    × (word "Glue_After_ZWJ" ≡ Unknown)
+values : (cluster "Control" ≡ Some 1)
+    × (cluster "CN" ≡ None)
+    × (cluster "control" ≡ None)
+    × (cluster "ALetter" ≡ None)
+    × (word "ALetter" ≡ Some 8)
+    × (word "L" ≡ None)
+    × (cluster "E_Base" ≡ Some 0)
+    × (word "Glue_After_Zwj" ≡ Some 0)
+    × (word "Glue_After_ZWJ" ≡ None)
 unfolding cluster word code_of among equal every agree
 values = (refl, refl, refl, refl, refl, refl, refl, refl, refl)
 
@@ -88,13 +87,13 @@ values = (refl, refl, refl, refl, refl, refl, refl, refl, refl)
 told : ℕ → List ℕ → String → Verdict
 told held cells bytes = read_verdict Cluster (ranges cells cells cells held) (ascii bytes)
 
-verdicts : (told 0 (0 ∷ 0 ∷ 0 ∷ []) "0041;Other\n0041;L" ≡ Refused (refusal 13 Neither 2))
-    × (told 0 (0 ∷ 0 ∷ []) "0041;L\n0042;L\n" ≡ Accepted)
-    × (told 0 (0 ∷ 0 ∷ []) "0041;L\n0042;L\n0043;L\nx" ≡ Refused (refusal 14 Neither 3))
-    × (told 0 (0 ∷ []) "0041;L\n#\n0041;l" ≡ Refused (refusal 12 Neither 3))
-    × (told 1 (0x41 ∷ []) "0041;L" ≡ Refused (refusal 13 Neither 1))
-    × (told 2 (0x41 ∷ []) "" ≡ Refused (refusal 14 Neither 0))
-    × (told 0 [] "" ≡ Accepted)
+verdicts : (told 0 (0 ∷ 0 ∷ 0 ∷ []) "0041;Other\n0041;L" ≡ Err (refusal 13 Neither 2))
+    × (told 0 (0 ∷ 0 ∷ []) "0041;L\n0042;L\n" ≡ Ok tt)
+    × (told 0 (0 ∷ 0 ∷ []) "0041;L\n0042;L\n0043;L\nx" ≡ Err (refusal 14 Neither 3))
+    × (told 0 (0 ∷ []) "0041;L\n#\n0041;l" ≡ Err (refusal 12 Neither 3))
+    × (told 1 (0x41 ∷ []) "0041;L" ≡ Err (refusal 13 Neither 1))
+    × (told 2 (0x41 ∷ []) "" ≡ Err (refusal 14 Neither 0))
+    × (told 0 [] "" ≡ Ok tt)
 unfolding told read_verdict over judge_line held_from said met share cells_of ruling_of span rest value_in code_of among equal every agree line_of body_of without_CR up_to before after trimmed leading untailed ending is_blank scalars_of value_of is_between no_value hex first_of last_of number_of number_from digit_of
 verdicts = (refl, refl, refl, refl, refl, refl, refl)
 

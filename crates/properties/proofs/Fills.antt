@@ -1,43 +1,26 @@
 -- The lookup's verdict and its class columns. Assumes nothing.
+use Rattle.std.specs.Prelude.{Ok}
 use Prim.Native.Nat.{ℕ, zero, suc, ◌+◌, ◌<◌, ◌≤◌, min}
 use mathlib.Core.Path.{◌≡◌, refl, sym, ◌∙◌, ap}
 use mathlib.Core.Bool.{true, cond}
-use mathlib.Core.List.{List, ◌++◌}
+use mathlib.Core.List.{List}
 use native.Mathlib.Nat.{le_trans, le_of_eq, min-le_left, min-le_right}
 use lib.Dec.{ltb}
-use lib.ListN.{length, drop, set}
-use borrow.Author.Tests.{lt-ltb, le-ltb, ltb-false}
-use Rattle.basics.specs.Columns.{cells}
+use lib.ListN.{length, set}
+use borrow.Author.Tests.{ltb-false}
 use Rattle.basics.proofs.Tests.{both}
 use Rattle.basics.proofs.Columns.{Written, written_more}
 use Rattle.records.specs.Text.{cell}
-use Rattle.records.specs.Refusals.{refusal, refuse, over}
+use Rattle.records.specs.Refusals.{refuse, over}
 use Rattle.records.specs.declared.Side.TheVariants.{Neither}
-use Rattle.records.specs.declared.Refusal.{Refusal}
-use Rattle.records.specs.declared.Verdict.{Verdict}
-use Rattle.records.specs.declared.Verdict.TheVariants.{Accepted, Refused}
+use Rattle.records.specs.Verdict.{Verdict}
 use Rattle.records.proofs.Verdicts.{unrefused, passes}
-use Rattle.properties.specs.Ranges.{Ranges, ranges, count_of, has, code_from, code_in, judge_scalar, lookup_verdict, class_at, filled}
+use Rattle.properties.specs.Ranges.{ranges, count_of, has, code_from, code_in, judge_scalar, lookup_verdict, class_at}
 use Rattle.properties.specs.Inner.{rises, ordered, Reach}
 
 pub lasts_rise : (firsts lasts : List ℕ) (n : ℕ) → ordered firsts lasts n ≡ true → rises lasts n ≡ true
 unfolding ordered
 lasts_rise firsts lasts n o = (both (rises firsts n) (rises lasts n) o).1
-
--- v is what was said of the scalars
-module _ (scalars : List ℕ) (breaks words : ℕ) (v : Verdict) (e : v ≡ over (λ i. judge_scalar (cell scalars i) i) 0 (length scalars)) where
-  pub judged_scalar : (r : Refusal) → v ≡ Refused r → v ≡ lookup_verdict scalars breaks words
-  unfolding lookup_verdict
-  judged_scalar r h = rw (← e, h)
-
-  module _ (h : v ≡ Accepted) (s : ℕ) (m : s ≡ min breaks words) where
-    pub judged_short : s < length scalars → Refused (refusal 9 Neither 0) ≡ lookup_verdict scalars breaks words
-    unfolding lookup_verdict
-    judged_short l = rw (← e, h, ← m, lt-ltb s (length scalars) l)
-
-    pub judged_whole : length scalars ≤ s → Accepted ≡ lookup_verdict scalars breaks words
-    unfolding lookup_verdict
-    judged_whole l = rw (← e, h, ← m, le-ltb s (length scalars) l)
 
 module _ (firsts lasts codes : List ℕ) where
   -- how many are held is asked in the count alone
@@ -69,7 +52,7 @@ module _ (firsts lasts codes : List ℕ) where
         rw f (written_more (class_at (ranges firsts lasts codes held) scalars) out₀ out i l w)
 
 -- what is accepted has room in both columns
-module _ (scalars : List ℕ) (breaks words : ℕ) (v : Verdict) (e : v ≡ lookup_verdict scalars breaks words) (h : v ≡ Accepted) where
+module _ (scalars : List ℕ) (breaks words : ℕ) (v : Verdict) (e : v ≡ lookup_verdict scalars breaks words) (h : v ≡ Ok tt) where
   room : length scalars ≤ min breaks words
   unfolding lookup_verdict
   room =
@@ -83,13 +66,4 @@ module _ (scalars : List ℕ) (breaks words : ℕ) (v : Verdict) (e : v ≡ look
   pub words_room : length scalars ≤ words
   words_room = le_trans room (min-le_right breaks words)
 
--- the three facts of the lookup's contract; b and w are what the columns hold afterwards
-module _ (scalars : List ℕ) (br wr : Ranges) (breaks words : List ℕ) (v : Verdict) (e : v ≡ lookup_verdict scalars (length breaks) (length words)) where
-  abbrev Looked : List ℕ → List ℕ → Type 0
-  Looked b w = (v ≡ lookup_verdict scalars (length breaks) (length words)) × ((b ≡ filled v br scalars breaks) × (w ≡ filled v wr scalars words))
-
-  pub looked_refused : (r : Refusal) → v ≡ Refused r → Looked breaks words
-  looked_refused r h = (e, (rw h, rw h))
-
-  pub looked_whole : (b w : List ℕ) → v ≡ Accepted → b ≡ cells (class_at br scalars) (length scalars) ++ drop (length scalars) breaks → w ≡ cells (class_at wr scalars) (length scalars) ++ drop (length scalars) words → Looked b w
-  looked_whole b w h p q = (e, (rw h p, rw h q))
+pub ruleset rooms = (breaks_room, words_room)

@@ -1,24 +1,23 @@
 -- The loops and the tests over a line's bytes are the definitions' walks. Assumes nothing.
+use Rattle.cases.specs.Numbers.{Number}
+use Rattle.std.specs.Prelude.{None}
 use Prim.Native.Nat.{ℕ, suc, ◌+◌, ◌-◌, ◌<◌, ◌≤◌}
-use mathlib.Core.Path.{◌≡◌, refl, sym, ◌∙◌, ap}
+use mathlib.Core.Path.{◌≡◌, sym, ◌∙◌, ap}
 use mathlib.Core.Bool.{Bool, true, false}
-use mathlib.Core.List.{List, [], ◌∷◌}
+use mathlib.Core.List.{List}
 use native.Mathlib.Numerals.{add-one}
 use native.Mathlib.Omega.{arith}
-use lib.Dec.{ltb}
+use lib.Dec.{eqb, ltb}
 use lib.ListN.{length, get_or, take, drop, length-drop, drop_of_length-le, get_or-eq_default}
 use lib.Seq.{drop-cons, take_all, length-take-le}
 use borrow.Author.Tests.{eq-eqb, ne_eqb, le-leb, lt-leb, ltb-true}
 use Rattle.basics.specs.Sets.{any}
 use Rattle.basics.proofs.Tests.{if_intro}
-use Rattle.cases.specs.declared.numbers.Number.{Number}
-use Rattle.cases.specs.declared.numbers.Number.TheVariants.{Value, Nothing}
 use Rattle.cases.specs.Spans.{before, up_to, next_from}
 use Rattle.cases.proofs.Splits.{before_within, next_after_lem}
 use Rattle.records.proofs.Unique.{unique}
 use Rattle.properties.specs.declared.Line.{Line}
-use Rattle.properties.specs.declared.Line.TheVariants.{Skipped, Malformed, Range}
-use Rattle.properties.specs.Lines.{is_blank, leading, ending, untailed, trimmed, without_CR, body_of, scalars_of, value_of, is_between, no_value, hex, first_of, last_of, range_of, line_of, value_in}
+use Rattle.properties.specs.Lines.{is_blank, leading, ending, untailed, trimmed, value_of, is_between, no_value, hex, first_of, last_of, line_of, value_in}
 
 -- what is left from a place to the end
 rest_whole : (bs : List ℕ) (i : ℕ) → take (length bs - i) (drop i bs) ≡ drop i bs
@@ -26,9 +25,9 @@ rest_whole bs i = take_all (length bs - i) (drop i bs) (omega (arith, length-dro
 
 -- the blanks at the start, of which i are passed; t is what was said of the byte there
 module _ (bs : List ℕ) (i : ℕ) (e : i + leading (drop i bs) ≡ leading bs) where
-  pub lead_over : length bs ≤ i → i ≡ leading bs
+  pub lead_over : length bs ≤ i → i ≤ length bs → length bs ≡ leading bs
   unfolding leading
-  lead_over h = let z : leading (drop i bs) ≡ 0 = rw (drop_of_length-le bs h) in omega arith
+  lead_over h k = let z : leading (drop i bs) ≡ 0 = rw (drop_of_length-le bs h) in omega arith
 
   module _ (t : Bool) (s : t ≡ is_blank (get_or bs i 0)) (h : i < length bs) where
     pub lead_more : t ≡ true → i + 1 + leading (drop (i + 1) bs) ≡ leading bs
@@ -43,9 +42,9 @@ module _ (bs : List ℕ) (i : ℕ) (e : i + leading (drop i bs) ≡ leading bs) 
 
 -- the blanks at the end, before which n bytes are left
 module _ (bs : List ℕ) (n : ℕ) (e : ending bs n ≡ ending bs (length bs)) where
-  pub end_over : n ≤ 0 → n ≡ ending bs (length bs)
+  pub end_over : n ≤ 0 → 0 ≡ ending bs (length bs)
   unfolding ending
-  end_over h = let f : n ≡ 0 = omega arith in f ∙ ap (ending bs) (sym f) ∙ e
+  end_over h = let f : n ≡ 0 = omega arith in ap (ending bs) (sym f) ∙ e
 
   module _ (t : Bool) (s : t ≡ is_blank (get_or bs (n - 1) 0)) (h : 0 < n) where
     whole : suc (n - 1) ≡ n
@@ -57,33 +56,19 @@ module _ (bs : List ℕ) (n : ℕ) (e : ending bs n ≡ ending bs (length bs)) w
         let z : ending bs (suc (n - 1)) ≡ ending bs (n - 1) = rw (← s, k) in
         sym z ∙ ap (ending bs) whole ∙ e
 
-    pub end_here : t ≡ false → n ≡ ending bs (length bs)
+    pub end_here : t ≡ false → n - 1 + 1 ≡ ending bs (length bs)
     unfolding ending
     end_here k =
         let z : ending bs (suc (n - 1)) ≡ suc (n - 1) = rw (← s, k) in
-        sym whole ∙ sym z ∙ ap (ending bs) whole ∙ e
+        add-one (n - 1) ∙ sym z ∙ ap (ending bs) whole ∙ e
 
-pub cr_none : (line : List ℕ) → length line ≡ 0 → line ≡ without_CR line
-unfolding without_CR
-cr_none [] h = refl
-cr_none (b ∷ bs) h = absurd (omega arith)
-
-module _ (line : List ℕ) where
-  pub cr_cut : get_or line (length line - 1) 0 ≡ 13 → take (length line - 1) line ≡ without_CR line
-  unfolding without_CR
-  cr_cut h = rw (eq-eqb _ _ h)
-
-  pub cr_other : (get_or line (length line - 1) 0 ≡ 13 → ⊥) → line ≡ without_CR line
-  unfolding without_CR
-  cr_other h = rw (ne_eqb _ _ h)
-
-pub value_none : (value : List ℕ) → length value ≡ 0 → true ≡ no_value value
+pub value_none : (value : List ℕ) (t : Bool) → t ≡ eqb (length value) 0 → t ≡ true → t ≡ no_value value
 unfolding no_value
-value_none value h = rw (eq-eqb _ _ h)
+value_none value t e h = h ∙ rw (← e, h)
 
-pub value_by : (value : List ℕ) (r : Bool) → (length value ≡ 0 → ⊥) → r ≡ any is_between value → r ≡ no_value value
+pub value_by : (value : List ℕ) (t r : Bool) → t ≡ eqb (length value) 0 → t ≡ false → r ≡ any is_between value → r ≡ no_value value
 unfolding no_value
-value_by value r h e = rw (ne_eqb _ _ h) e
+value_by value t r e h k = rw (← e, h) k
 
 -- the last scalar; part is what stands before the first dot
 module _ (scalars part : List ℕ) (e : part ≡ up_to 46 (drop 0 scalars)) where
@@ -96,11 +81,11 @@ module _ (scalars part : List ℕ) (e : part ≡ up_to 46 (drop 0 scalars)) wher
   last_alone r h k = rw (← end_is, le-leb _ _ h) k
 
   module _ (h : length part < length scalars) where
-    pub last_over : length scalars ≤ length part + 1 → Nothing ≡ last_of scalars
+    pub last_over : length scalars ≤ length part + 1 → None ≡ last_of scalars
     unfolding last_of
     last_over k = rw (← end_is, lt-leb (length scalars) (length part) h, get_or-eq_default scalars 0 k)
 
-    pub last_other : (get_or scalars (length part + 1) 0 ≡ 46 → ⊥) → Nothing ≡ last_of scalars
+    pub last_other : (get_or scalars (length part + 1) 0 ≡ 46 → ⊥) → None ≡ last_of scalars
     unfolding last_of
     last_other n = rw (← end_is, lt-leb (length scalars) (length part) h, ne_eqb _ _ n)
 
@@ -109,13 +94,6 @@ module _ (scalars part : List ℕ) (e : part ≡ up_to 46 (drop 0 scalars)) wher
     last_read r k q =
         let f : length part + 1 + 1 ≡ length part + 2 = omega arith in
         rw (← end_is, lt-leb (length scalars) (length part) h, eq-eqb _ _ k, ← f) (q ∙ ap hex (rest_whole scalars (length part + 1 + 1)))
-
-module _ (first last : Number) (a b : ℕ) (e : first ≡ Value a) (f : last ≡ Value b) where
-  pub range_up : a ≤ b → Range a b ≡ range_of first last
-  range_up h = rw (e, f, le-leb a b h)
-
-  pub range_down : b < a → Malformed ≡ range_of first last
-  range_down h = rw (e, f, lt-leb a b h)
 
 pub trims : (bs : List ℕ) (i : ℕ) (r : List ℕ) → i ≡ leading bs → r ≡ untailed (take (length bs - i) (drop i bs)) → r ≡ trimmed bs
 unfolding trimmed
@@ -133,21 +111,6 @@ module _ (body : List ℕ) (at : ℕ) (e : at ≡ next_from 59 0 body) where
   pub valued : (r : List ℕ) → r ≡ trimmed (take (length body - at) (drop at body)) → r ≡ value_of body
   unfolding value_of
   valued r k = k ∙ ap trimmed (rest_whole body at ∙ ap (λ (n : ℕ). drop n body) e ∙ next_after_lem 59 0 body)
-
--- a line by its parts, as they were cut out
-module _ (line body : List ℕ) (e : body ≡ body_of line) where
-  pub line_skipped : length body ≡ 0 → Skipped ≡ line_of line
-  unfolding line_of
-  line_skipped h = rw (← e, eq-eqb _ _ h)
-
-  module _ (h : length body ≡ 0 → ⊥) (value : List ℕ) (v : value ≡ value_of body) (t : Bool) (n : t ≡ no_value value) where
-    pub line_none : t ≡ true → Malformed ≡ line_of line
-    unfolding line_of
-    line_none k = rw (← e, ne_eqb _ _ h, ← v, ← n, k)
-
-    pub line_range : t ≡ false → (scalars : List ℕ) → scalars ≡ scalars_of body → (first last : Number) → first ≡ first_of scalars → last ≡ last_of scalars → (r : Line) → r ≡ range_of first last → r ≡ line_of line
-    unfolding line_of
-    line_range k scalars s first last f l r q = rw (← e, ne_eqb _ _ h, ← v, ← n, k, ← s, ← f, ← l) q
 
 -- no two answers of `line_of` and of `value_in` fulfil their contracts (SCOPE 10)
 pub line_of_unique : (line : List ℕ) (a b : Line) → a ≡ line_of line → b ≡ line_of line → a ≡ b

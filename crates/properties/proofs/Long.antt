@@ -1,4 +1,5 @@
 -- A line that holds a range has three bytes at least. Assumes nothing.
+use Rattle.std.specs.Prelude.{Some, None}
 use Prim.Native.Nat.{ℕ, zero, suc, ◌+◌, ◌-◌, ◌≤◌}
 use Prim.Native.Char.{code}
 use mathlib.Core.Path.{◌≡◌, refl}
@@ -10,11 +11,10 @@ use lib.Dec.{eqb, leb}
 use lib.ListN.{length, get_or, take, drop, length-take, length-drop}
 use Rattle.basics.specs.Sets.{any}
 use Rattle.basics.proofs.Tests.{if_intro, neither}
-use Rattle.cases.specs.declared.numbers.Number.{Number}
-use Rattle.cases.specs.Numbers.{number_of}
+use Rattle.cases.specs.Numbers.{number_of, Number}
 use Rattle.cases.specs.Spans.{before, up_to, after}
 use Rattle.properties.specs.declared.File.{File}
-use Rattle.properties.specs.declared.Value.{Value}
+use Rattle.properties.specs.Names.{Value}
 use Rattle.properties.specs.declared.Line.{Line}
 use Rattle.properties.specs.declared.Ruling.{Ruling}
 use Rattle.properties.specs.Names.{code_of}
@@ -45,13 +45,13 @@ unfolding body_of up_to
 body_short line =
     omega (arith, trimmed_short (take (before (code "#") (without_CR line)) (without_CR line)), take_short (before (code "#") (without_CR line)) (without_CR line), without_short line)
 
-digits_some : (digits : List ℕ) (v : ℕ) → hex digits ≡ Number.Value v → 1 ≤ length digits
+digits_some : (digits : List ℕ) (v : ℕ) → hex digits ≡ Some v → 1 ≤ length digits
 unfolding hex number_of
 digits_some [] v e = absurd (let z : ◌≡◌ {A = ℕ} 0 1 = cc in omega arith)
 digits_some (x ∷ xs) v e = omega arith
 
 module _ (body : List ℕ) where
-  scalars_some : (v : ℕ) → first_of (scalars_of body) ≡ Number.Value v → 1 ≤ before (code ";") body
+  scalars_some : (v : ℕ) → first_of (scalars_of body) ≡ Some v → 1 ≤ before (code ";") body
   unfolding first_of scalars_of up_to
   scalars_some v e =
       let scalars : List ℕ = trimmed (take (before (code ";") body) body) in
@@ -79,15 +79,15 @@ module _ (body : List ℕ) where
 abbrev bytes_of : Ruling → ℕ
 bytes_of r = length (said_by r) + length (said_by r) + length (said_by r)
 
-range_bytes : (n : ℕ) (a b : Number) → ((v : ℕ) → a ≡ Number.Value v → 3 ≤ n) → (value : Value) → bytes_of (ruled (range_of a b) value) ≤ n
-range_bytes n Number.Nothing b h value = omega arith
-range_bytes n (Number.Value f) Number.Nothing h value = omega arith
-range_bytes n (Number.Value f) (Number.Value l) h value =
+range_bytes : (n : ℕ) (a b : Number) → ((v : ℕ) → a ≡ Some v → 3 ≤ n) → (value : Value) → bytes_of (ruled (range_of a b) value) ≤ n
+range_bytes n None b h value = omega arith
+range_bytes n (Some f) None h value = omega arith
+range_bytes n (Some f) (Some l) h value =
     if_intro (λ x. bytes_of (ruled x value) ≤ n) (leb f l) (Line.Range f l) Line.Malformed (λ t. known value) (λ t. omega arith)
   where
     known : (v : Value) → bytes_of (ruled (Line.Range f l) v) ≤ n
-    known (Value.Found c) = h f refl
-    known Value.Unknown = omega arith
+    known (Some c) = h f refl
+    known None = omega arith
 
 module _ (file : File) (line : List ℕ) where
   pub said_bytes : length (said_by (ruling_of file line)) + length (said_by (ruling_of file line)) + length (said_by (ruling_of file line)) ≤ length line

@@ -1,8 +1,12 @@
 -- Columns that rise, and the place that halving finds in one. Assumes nothing.
 use Prim.Native.Nat.{ℕ, zero, suc, ◌+◌, ◌<◌, ◌≤◌}
-use mathlib.Core.Path.{◌≡◌, sym, ap}
+use mathlib.Core.Path.{◌≡◌, sym, ◌∙◌, ap}
 use mathlib.Core.Bool.{true, false}
 use mathlib.Core.List.{List}
+use lib.ListN.{length, get_or, take}
+use Rattle.std.specs.List.Sorted.{IsNonDecreasingBy}
+use Rattle.std.proofs.lemmas.List.{get_or-take, length-take-le}
+use Rattle.std.proofs.lemmas.Grind.{get_or_default_zero}
 use mathlib.Core.Logic.{⊎_elim}
 use native.Mathlib.Nat.{eq-or-lt_of_le, le_of_eq, le_trans}
 use native.Mathlib.Numerals.{add-one}
@@ -41,10 +45,12 @@ module _ (column : List ℕ) where
         (λ q. le_trans (rising j i (omega arith) (omega arith)) (leb-true _ _ (every_at (rises_at column) n (suc j) up l)))
         (eq-or-lt_of_le h)
 
-    -- one cell in the middle is enough
-    module _ (scalar middle : ℕ) (h : middle < n) where
-      pub place_low : cell column middle < scalar → (k : ℕ) → k < middle + 1 → cell column k < scalar
-      place_low l k b = omega (arith, rising middle k (omega arith) h)
+    -- the first n cells as a list of their own
+    module _ (h : n ≤ length column) where
+      pub first_cell : (k d : ℕ) → k < n → get_or (take n column) k d ≡ cell column k
+      first_cell k d l = get_or-take n column k d l ∙ get_or_default_zero column k d (omega arith)
 
-      pub place_high : scalar ≤ cell column middle → (k : ℕ) → middle ≤ k → k < n → scalar ≤ cell column k
-      place_high l k a b = omega (arith, rising k middle a b)
+      pub first_rise : IsNonDecreasingBy (λ (x : ℕ). x) (take n column)
+      first_rise i j d a b =
+          let l : j < n = omega (arith, length-take-le n column h) in
+          omega (arith, first_cell i d (omega arith), first_cell j d l, rising j i a l)

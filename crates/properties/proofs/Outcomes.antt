@@ -1,4 +1,5 @@
 -- How a reading comes out. Assumes nothing.
+use Rattle.std.specs.Prelude.{Ok, Err}
 use Prim.Native.Nat.{ℕ, ◌+◌, ◌-◌, ◌<◌, ◌≤◌, min}
 use mathlib.Core.Path.{◌≡◌, refl, sym, ◌∙◌, ap}
 use mathlib.Core.Bool.{◌||◌}
@@ -12,16 +13,14 @@ use Rattle.basics.proofs.Tests.{by_test}
 use Rattle.cases.specs.Spans.{span}
 use Rattle.records.specs.Refusals.{over}
 use Rattle.records.specs.declared.Refusal.{Refusal}
-use Rattle.records.specs.declared.Verdict.{Verdict}
-use Rattle.records.specs.declared.Verdict.TheVariants.{Accepted, Refused}
+use Rattle.records.specs.Verdict.{Verdict}
 use Rattle.records.proofs.Judged.{over_same}
 use Rattle.properties.specs.declared.File.{File}
 use Rattle.properties.specs.declared.Ruling.{Ruling}
-use Rattle.properties.specs.declared.verdicts.Collected.{Collected}
 use Rattle.properties.specs.Rulings.{ruling_of}
 use Rattle.properties.specs.Ranges.{Ranges, ranges}
 use Rattle.properties.specs.Reading.{Held, held_from, said, refused_at, judge_ruling, cells_of, judge_line, line_count, read_verdict, put_all, stored_in, read_into, read_ranges, HasRead}
-use Rattle.properties.specs.Inner.{Reach, met_said, judge_met, judge_free, Readable, Collects}
+use Rattle.properties.specs.Inner.{Reach, met_said, judge_met, judge_free, Readable, Collected, verdict_of, Collects}
 use Rattle.properties.proofs.Insertions.{met_append, held_length}
 use Rattle.properties.proofs.Turns.{met_list}
 
@@ -76,22 +75,22 @@ module _ (file : File) (bytes firsts lasts codes : List ℕ) (held free : ℕ) (
       (over_same (judge_free file bytes firsts lasts held free) (judge_line file (ranges firsts lasts codes held) bytes) (λ k. sym (line_free k)) (line_count bytes) 0)
 
   module _ (c : Collected) (newFirsts newLasts newCodes : List ℕ) (got : Collects file bytes firsts lasts held free c newFirsts newLasts newCodes) where
-    verdict_is : c.verdict ≡ read_verdict file (ranges firsts lasts codes held) bytes
+    verdict_is : verdict_of c ≡ read_verdict file (ranges firsts lasts codes held) bytes
     verdict_is = got.judged ∙ lines_free
 
-    pub lines_refused : (x : Refusal) → c.verdict ≡ Refused x → HasRead file (ranges firsts lasts codes held) bytes (record { verdict = c.verdict; held = held }) firsts lasts codes
+    pub lines_refused : (x : Refusal) → c ≡ Err x → HasRead file (ranges firsts lasts codes held) bytes (record { verdict = Err x; held = held }) firsts lasts codes
     unfolding read_ranges
-    lines_refused x e = record { judged = verdict_is; held = rw (sym verdict_is ∙ e) }
+    lines_refused x e = let q : Err x ≡ read_verdict file (ranges firsts lasts codes held) bytes = ap verdict_of (sym e) ∙ verdict_is in record { judged = q; held = rw (sym q) }
 
-    pub lines_stored : c.verdict ≡ Accepted → (firsts' lasts' codes' : List ℕ) → ranges firsts' lasts' codes' (held + c.count) ≡ stored_in (ranges firsts lasts codes held) (put_all (held_from firsts lasts codes 0 held) (held_from newFirsts newLasts newCodes 0 c.count)) → HasRead file (ranges firsts lasts codes held) bytes (record { verdict = c.verdict; held = held + c.count }) firsts' lasts' codes'
+    pub lines_stored : (n : ℕ) → c ≡ Ok n → (firsts' lasts' codes' : List ℕ) → ranges firsts' lasts' codes' (held + n) ≡ stored_in (ranges firsts lasts codes held) (put_all (held_from firsts lasts codes 0 held) (held_from newFirsts newLasts newCodes 0 n)) → HasRead file (ranges firsts lasts codes held) bytes (record { verdict = Ok tt; held = held + n }) firsts' lasts' codes'
     unfolding read_ranges
-    lines_stored e firsts' lasts' codes' s =
+    lines_stored n e firsts' lasts' codes' s =
         record {
-          judged = verdict_is;
+          judged = ap verdict_of (sym e) ∙ verdict_is;
           held =
               s
-              ∙ ap (λ hs. stored_in (ranges firsts lasts codes held) (put_all (held_from firsts lasts codes 0 held) hs)) (got.noted e)
-              ∙ ap (λ v. read_into v file (ranges firsts lasts codes held) bytes) (sym e ∙ verdict_is);
+              ∙ ap (λ hs. stored_in (ranges firsts lasts codes held) (put_all (held_from firsts lasts codes 0 held) hs)) (got.noted n e)
+              ∙ ap (λ v. read_into v file (ranges firsts lasts codes held) bytes) (ap verdict_of (sym e) ∙ verdict_is);
         }
 
 -- refused before any line

@@ -1,4 +1,6 @@
 -- What an accepted reading leaves in the range columns. Assumes nothing.
+use Rattle.cases.specs.Numbers.{Number}
+use Rattle.std.specs.Prelude.{Ok, Some, None}
 use Prim.Native.Nat.{ℕ, zero, suc, ◌+◌, ◌<◌, ◌≤◌}
 use mathlib.Core.Path.{◌≡◌, refl, sym, ◌∙◌, ap, subst}
 use mathlib.Core.Bool.{false, cond}
@@ -11,18 +13,15 @@ use lib.Dec.{eqb, leb, ltb}
 use lib.ListN.{length, length-append}
 use borrow.Author.Tests.{leb-true, leb-false, ltb-false, le-ltb}
 use Rattle.basics.proofs.Tests.{if_intro}
-use Rattle.cases.specs.declared.numbers.Number.{Number}
 use Rattle.cases.specs.Spans.{span}
 use Rattle.records.specs.Text.{cell}
 use Rattle.records.specs.Refusals.{refuse, ◌⊳◌, over}
 use Rattle.records.specs.declared.Side.TheVariants.{Neither}
-use Rattle.records.specs.declared.Verdict.TheVariants.{Accepted}
 use Rattle.records.proofs.Unique.{unique}
 use Rattle.records.proofs.Verdicts.{unrefused, passes, over_each, each_over}
 use Rattle.properties.specs.declared.File.{File}
 use Rattle.properties.specs.declared.Filled.{Filled}
-use Rattle.properties.specs.declared.Value.{Value}
-use Rattle.properties.specs.declared.Value.TheVariants.{Found, Unknown}
+use Rattle.properties.specs.Names.{Value}
 use Rattle.properties.specs.declared.Line.{Line}
 use Rattle.properties.specs.declared.Ruling.{Ruling}
 use Rattle.properties.specs.Names.{code_of}
@@ -71,9 +70,9 @@ module _ (file : File) (bytes : List ℕ) where
 
 -- "a range that runs downward is malformed": what a line says runs upward
 range_upward : (a b : Number) (first last : ℕ) → range_of a b ≡ Line.Range first last → first ≤ last
-range_upward Number.Nothing b first last e = absurd (let z : ◌≡◌ {A = ℕ} 0 1 = cc in omega arith)
-range_upward (Number.Value f) Number.Nothing first last e = absurd (let z : ◌≡◌ {A = ℕ} 0 1 = cc in omega arith)
-range_upward (Number.Value f) (Number.Value l) first last e =
+range_upward None b first last e = absurd (let z : ◌≡◌ {A = ℕ} 0 1 = cc in omega arith)
+range_upward (Some f) None first last e = absurd (let z : ◌≡◌ {A = ℕ} 0 1 = cc in omega arith)
+range_upward (Some f) (Some l) first last e =
     if_intro (λ x. x ≡ Line.Range first last → first ≤ last) (leb f l) (Line.Range f l) Line.Malformed
     (λ t q. let a : f ≡ first = cc in let b : l ≡ last = cc in omega (arith, leb-true f l t))
     (λ t q. absurd (let z : ◌≡◌ {A = ℕ} 0 1 = cc in omega arith))
@@ -93,8 +92,8 @@ line_upward line first last e =
 ruled_line : (x : Line) (v : Value) (first last code : ℕ) → ruled x v ≡ Ruling.Range first last code → x ≡ Line.Range first last
 ruled_line Line.Skipped v first last code e = absurd (let z : ◌≡◌ {A = ℕ} 0 1 = cc in omega arith)
 ruled_line Line.Malformed v first last code e = absurd (let z : ◌≡◌ {A = ℕ} 0 1 = cc in omega arith)
-ruled_line (Line.Range f l) Unknown first last code e = absurd (let z : ◌≡◌ {A = ℕ} 0 1 = cc in omega arith)
-ruled_line (Line.Range f l) (Found c) first last code e = cc
+ruled_line (Line.Range f l) None first last code e = absurd (let z : ◌≡◌ {A = ℕ} 0 1 = cc in omega arith)
+ruled_line (Line.Range f l) (Some c) first last code e = cc
 
 pub ruling_upward : (file : File) (line : List ℕ) (first last code : ℕ) → ruling_of file line ≡ Ruling.Range first last code → first ≤ last
 unfolding ruling_of
@@ -106,22 +105,22 @@ ruling_upward file line first last code e = line_upward line first last (ruled_l
 pub record Passed (file : File) (r : Ranges) (bytes : List ℕ) : Type 0 where
   pub short : length bytes ≤ 65536
   pub cells : r.held ≤ room r
-  pub lines : (k : ℕ) → k < line_count bytes → judge_line file r bytes k ≡ Accepted
+  pub lines : (k : ℕ) → k < line_count bytes → judge_line file r bytes k ≡ Ok tt
 
 -- what the verdict on one line says of a range
-pub range_passes : (x : Ruling) (first last code : ℕ) (before : List Held) (cells number : ℕ) → x ≡ Ruling.Range first last code → judge_ruling x before cells number ≡ Accepted → (met first last before ≡ false) × (length before < cells)
+pub range_passes : (x : Ruling) (first last code : ℕ) (before : List Held) (cells number : ℕ) → x ≡ Ruling.Range first last code → judge_ruling x before cells number ≡ Ok tt → (met first last before ≡ false) × (length before < cells)
 range_passes x first last code before cells number e h =
-    let p : judge_ruling (Ruling.Range first last code) before cells number ≡ Accepted = rw e at h in
+    let p : judge_ruling (Ruling.Range first last code) before cells number ≡ (Ok tt) = rw e at h in
     let b : _ = passes (refuse (met first last before) 13 Neither number) (refuse (leb cells (length before)) 14 Neither number) p in
     (unrefused (met first last before) 13 Neither number b.0, leb-false cells (length before) (unrefused (leb cells (length before)) 14 Neither number b.1))
 
-fits_more : (x : Ruling) (hs xs : List Held) (cells number : ℕ) → ((first last code : ℕ) → x ≡ Ruling.Range first last code → first ≤ last) → judge_ruling x (xs ++ hs) cells number ≡ Accepted → Fits hs xs → Fits hs (said_by x ++ xs)
+fits_more : (x : Ruling) (hs xs : List Held) (cells number : ℕ) → ((first last code : ℕ) → x ≡ Ruling.Range first last code → first ≤ last) → judge_ruling x (xs ++ hs) cells number ≡ Ok tt → Fits hs xs → Fits hs (said_by x ++ xs)
 fits_more Ruling.Nothing hs xs cells number up e f = f
 fits_more (Ruling.Refused refused) hs xs cells number up e f = f
 fits_more (Ruling.Range first last code) hs xs cells number up e f =
     (up first last code refl, (range_passes (Ruling.Range first last code) first last code (xs ++ hs) cells number refl e).0, f)
 
-room_more : (x : Ruling) (hs xs : List Held) (cells number : ℕ) → judge_ruling x (xs ++ hs) cells number ≡ Accepted → length (xs ++ hs) ≤ cells → length ((said_by x ++ xs) ++ hs) ≤ cells
+room_more : (x : Ruling) (hs xs : List Held) (cells number : ℕ) → judge_ruling x (xs ++ hs) cells number ≡ Ok tt → length (xs ++ hs) ≤ cells → length ((said_by x ++ xs) ++ hs) ≤ cells
 room_more Ruling.Nothing hs xs cells number e f = f
 room_more (Ruling.Refused refused) hs xs cells number e f = f
 room_more (Ruling.Range first last code) hs xs cells number e f =
@@ -129,7 +128,7 @@ room_more (Ruling.Range first last code) hs xs cells number e f =
 
 module _ (file : File) (r : Ranges) (bytes : List ℕ) where
   -- accepted exactly where none of them refuses
-  pub accepted_passed : read_verdict file r bytes ≡ Accepted → Passed file r bytes
+  pub accepted_passed : read_verdict file r bytes ≡ Ok tt → Passed file r bytes
   unfolding read_verdict
   accepted_passed e =
       let a : _ = passes (refuse (ltb 65536 (length bytes)) 1 Neither 0) (refuse (ltb (room r) r.held) 14 Neither 0 ⊳ over (judge_line file r bytes) 0 (line_count bytes)) e in
@@ -140,14 +139,14 @@ module _ (file : File) (r : Ranges) (bytes : List ℕ) where
         lines = λ k h. over_each (judge_line file r bytes) (line_count bytes) 0 b.1 k (omega arith) (omega arith);
       }
 
-  pub passed_accepted : Passed file r bytes → read_verdict file r bytes ≡ Accepted
+  pub passed_accepted : Passed file r bytes → read_verdict file r bytes ≡ Ok tt
   unfolding read_verdict
   passed_accepted p =
       rw (le-ltb 65536 (length bytes) p.short, le-ltb (room r) r.held p.cells)
       (each_over (judge_line file r bytes) (line_count bytes) 0 (λ k l h. p.lines k (omega arith)))
 
   -- each range of a line runs upward and meets none held or of an earlier line
-  pub lines_fit : (k : ℕ) → ((j : ℕ) → j < k → judge_line file r bytes j ≡ Accepted) → Fits (held_of r) (said file bytes k)
+  pub lines_fit : (k : ℕ) → ((j : ℕ) → j < k → judge_line file r bytes j ≡ Ok tt) → Fits (held_of r) (said file bytes k)
   unfolding said judge_line
   lines_fit zero p = tt
   lines_fit (suc k) p =
@@ -155,7 +154,7 @@ module _ (file : File) (r : Ranges) (bytes : List ℕ) where
       (λ first last code e. ruling_upward file (span 10 k bytes) first last code e) (p k (omega arith)) (lines_fit k (λ j h. p j (omega arith)))
 
   -- the same of one line
-  pub line_fits : (j : ℕ) (h : Held) → judge_line file r bytes j ≡ Accepted → Says file bytes j h → (h.first ≤ h.last) × (met h.first h.last (said file bytes j ++ held_of r) ≡ false)
+  pub line_fits : (j : ℕ) (h : Held) → judge_line file r bytes j ≡ Ok tt → Says file bytes j h → (h.first ≤ h.last) × (met h.first h.last (said file bytes j ++ held_of r) ≡ false)
   unfolding judge_line
   line_fits j h p e = (
     ruling_upward file (span 10 j bytes) h.first h.last h.code e,
@@ -163,7 +162,7 @@ module _ (file : File) (r : Ranges) (bytes : List ℕ) where
   )
 
   -- and there is a cell for each
-  lines_room : (k : ℕ) → r.held ≤ room r → ((j : ℕ) → j < k → judge_line file r bytes j ≡ Accepted) → length (said file bytes k ++ held_of r) ≤ room r
+  lines_room : (k : ℕ) → r.held ≤ room r → ((j : ℕ) → j < k → judge_line file r bytes j ≡ Ok tt) → length (said file bytes k ++ held_of r) ≤ room r
   unfolding said judge_line
   lines_room zero c p = rw (held_length r.firsts r.lasts r.codes 0 r.held) c
   lines_room (suc k) c p =
@@ -179,11 +178,11 @@ module _ (file : File) (r : Ranges) (bytes : List ℕ) where
   held_now_length =
       omega (arith, put_all_length (held_of r) (said file bytes (line_count bytes)), length-append (said file bytes (line_count bytes)) (held_of r))
 
-  pub read_stored : read_verdict file r bytes ≡ Accepted → read_ranges file r bytes ≡ stored_in r held_now
+  pub read_stored : read_verdict file r bytes ≡ Ok tt → read_ranges file r bytes ≡ stored_in r held_now
   unfolding read_ranges
   read_stored e = ap (λ v. read_into v file r bytes) e
 
-  module _ (accepted : read_verdict file r bytes ≡ Accepted) where
+  module _ (accepted : read_verdict file r bytes ≡ Ok tt) where
     passed : Passed file r bytes
     passed = accepted_passed accepted
 
@@ -277,13 +276,13 @@ module _ (r : Ranges) (fits : r.held ≤ room r) where
       one_range r order scalar k (omega (arith, count_held, t.1)) (in_both (cell r.firsts k) (cell r.lasts k) scalar c d) ∙ ap the_code (sym t.2)
 
 module _ (file : File) (r : Ranges) (order : InOrder r) where
-  now_falls : (bytes : List ℕ) → read_verdict file r bytes ≡ Accepted → Falls (held_now file r bytes)
+  now_falls : (bytes : List ℕ) → read_verdict file r bytes ≡ Ok tt → Falls (held_now file r bytes)
   now_falls bytes e =
       let p : _ = accepted_passed file r bytes e in
       put_falls (held_of r) (said file bytes (line_count bytes)) (order_falls r p.cells order) (lines_fit file r bytes (line_count bytes) p.lines)
 
   -- "it fills range columns in scalar order", and 13, "range that meets one held or earlier": ordered, none meeting another
-  pub in_order : (bytes : List ℕ) → read_verdict file r bytes ≡ Accepted → InOrder (read_ranges file r bytes)
+  pub in_order : (bytes : List ℕ) → read_verdict file r bytes ≡ Ok tt → InOrder (read_ranges file r bytes)
   in_order bytes e =
       falls_order (read_ranges file r bytes) (held_fits file r bytes e) (subst Falls (sym (held_after file r bytes e)) (now_falls bytes e))
 
@@ -293,13 +292,13 @@ module _ (file : File) (r : Ranges) (order : InOrder r) where
       (put_either (held_of r) (said file a (line_count a)) m)
 
   -- the order of lines does not matter to an accepted reading: nor does anything else than which ranges they hold
-  pub order_free : (a b : List ℕ) → read_verdict file r a ≡ Accepted → read_verdict file r b ≡ Accepted → Among (said file a (line_count a)) (said file b (line_count b)) → Among (said file b (line_count b)) (said file a (line_count a)) → read_ranges file r a ≡ read_ranges file r b
+  pub order_free : (a b : List ℕ) → read_verdict file r a ≡ Ok tt → read_verdict file r b ≡ Ok tt → Among (said file a (line_count a)) (said file b (line_count b)) → Among (said file b (line_count b)) (said file a (line_count a)) → read_ranges file r a ≡ read_ranges file r b
   order_free a b ea eb f g =
       read_stored file r a ea
       ∙ ap (stored_in r) (falls_same (held_now file r a) (held_now file r b) (now_falls a ea) (now_falls b eb) (now_among a b f) (now_among b a g))
       ∙ sym (read_stored file r b eb)
 
-  module _ (bytes : List ℕ) (e : read_verdict file r bytes ≡ Accepted) (scalar : ℕ) where
+  module _ (bytes : List ℕ) (e : read_verdict file r bytes ≡ Ok tt) (scalar : ℕ) where
     -- "a lookup's answer is the value of the one range that has the scalar": of a range of a line
     pub line_looked_up : (j : ℕ) (h : Held) → j < line_count bytes → Says file bytes j h → h.first ≤ scalar → scalar ≤ h.last → code_in (read_ranges file r bytes) scalar ≡ h.code
     line_looked_up j h l s a b =
@@ -312,7 +311,7 @@ module _ (file : File) (r : Ranges) (order : InOrder r) where
         held_answers (read_ranges file r bytes) (held_fits file r bytes e) (in_order bytes e) h scalar ((held_exactly file r bytes e h).1 (inl m)) a b
 
 -- "A scalar in no range is XX or Other.": in none that was held, and in none of a line
-pub none_looked_up : (file : File) (r : Ranges) (bytes : List ℕ) → read_verdict file r bytes ≡ Accepted → (scalar : ℕ) → ((h : Held) → Memᴰ h (held_of r) → is_in h.first h.last scalar ≡ false) → ((j : ℕ) (h : Held) → j < line_count bytes → Says file bytes j h → is_in h.first h.last scalar ≡ false) → code_in (read_ranges file r bytes) scalar ≡ 0
+pub none_looked_up : (file : File) (r : Ranges) (bytes : List ℕ) → read_verdict file r bytes ≡ Ok tt → (scalar : ℕ) → ((h : Held) → Memᴰ h (held_of r) → is_in h.first h.last scalar ≡ false) → ((j : ℕ) (h : Held) → j < line_count bytes → Says file bytes j h → is_in h.first h.last scalar ≡ false) → code_in (read_ranges file r bytes) scalar ≡ 0
 none_looked_up file r bytes e scalar f g =
     let s : Ranges = read_ranges file r bytes in
     in_no_range s scalar

@@ -1,4 +1,5 @@
 -- When a reading is refused, and with what. Assumes nothing.
+use Rattle.std.specs.Prelude.{Ok, Err, Some, None}
 use Prim.Native.Nat.{ℕ, zero, suc, ◌+◌, ◌<◌, ◌≤◌, max}
 use mathlib.Core.Path.{◌≡◌, refl, sym, ◌∙◌, ap, subst}
 use mathlib.Core.Bool.{Bool, true, false, or-true, false≢true}
@@ -15,12 +16,10 @@ use Rattle.cases.specs.Spans.{span}
 use Rattle.records.specs.Refusals.{refusal, refuse, ◌⊳◌, over}
 use Rattle.records.specs.declared.Side.TheVariants.{Neither}
 use Rattle.records.specs.declared.Refusal.{Refusal}
-use Rattle.records.specs.declared.Verdict.{Verdict}
-use Rattle.records.specs.declared.Verdict.TheVariants.{Accepted, Refused}
+use Rattle.records.specs.Verdict.{Verdict}
 use Rattle.records.proofs.Verdicts.{never}
 use Rattle.properties.specs.declared.File.{File}
-use Rattle.properties.specs.declared.Value.{Value}
-use Rattle.properties.specs.declared.Value.TheVariants.{Found, Unknown}
+use Rattle.properties.specs.Names.{Value}
 use Rattle.properties.specs.declared.Line.{Line}
 use Rattle.properties.specs.Names.{code_of}
 use Rattle.properties.specs.Lines.{line_of, value_in}
@@ -34,16 +33,16 @@ use Rattle.properties.proofs.Readings.{said_line, ruling_upward, order_falls}
 
 -- among the indices from i on
 abbrev First : (ℕ → Verdict) → ℕ → ℕ → Refusal → Type 0
-First judge i n x = (k : ℕ) × (i ≤ k) × (k < i + n) × (judge k ≡ Refused x) × ((j : ℕ) → i ≤ j → j < k → judge j ≡ Accepted)
+First judge i n x = (k : ℕ) × (i ≤ k) × (k < i + n) × (judge k ≡ Err x) × ((j : ℕ) → i ≤ j → j < k → judge j ≡ Ok tt)
 
-over_first : (judge : ℕ → Verdict) (x : Refusal) (n i : ℕ) → over judge i n ≡ Refused x → First judge i n x
+over_first : (judge : ℕ → Verdict) (x : Refusal) (n i : ℕ) → over judge i n ≡ Err x → First judge i n x
 unfolding over
 over_first judge x zero i e = never (sym e)
 over_first judge x (suc n) i e = go (judge i) refl e (λ q. over_first judge x n (i + 1) q)
   where
-    go : (v : Verdict) → judge i ≡ v → v ⊳ over judge (i + 1) n ≡ Refused x → (over judge (i + 1) n ≡ Refused x → First judge (i + 1) n x) → First judge i (suc n) x
-    go (Refused y) h q f = (i, omega arith, omega arith, h ∙ q, λ j a b. absurd (omega arith))
-    go Accepted h q f =
+    go : (v : Verdict) → judge i ≡ v → v ⊳ over judge (i + 1) n ≡ Err x → (over judge (i + 1) n ≡ Err x → First judge (i + 1) n x) → First judge i (suc n) x
+    go (Err y) h q f = (i, omega arith, omega arith, h ∙ q, λ j a b. absurd (omega arith))
+    go (Ok _) h q f =
         let t : First judge (i + 1) n x = f q in (
           t.0,
           omega (arith, t.1),
@@ -52,7 +51,7 @@ over_first judge x (suc n) i e = go (judge i) refl e (λ q. over_first judge x n
           λ j a b. ⊎_elim (λ p. ap judge (sym p) ∙ h) (λ p. t.4 j (omega arith) b) (eq-or-lt_of_le a),
         )
 
-over_only : (judge : ℕ → Verdict) (x : Refusal) (n i : ℕ) → First judge i n x → over judge i n ≡ Refused x
+over_only : (judge : ℕ → Verdict) (x : Refusal) (n i : ℕ) → First judge i n x → over judge i n ≡ Err x
 unfolding over
 over_only judge x zero i t = absurd (omega (arith, t.1, t.2))
 over_only judge x (suc n) i t =
@@ -64,8 +63,8 @@ over_only judge x (suc n) i t =
 -- the k-th line is refused and none before it is
 pub record RefusedAt (file : File) (r : Ranges) (bytes : List ℕ) (x : Refusal) (k : ℕ) : Type 0 where
   pub within : k < line_count bytes
-  pub refused : judge_line file r bytes k ≡ Refused x
-  pub before : (j : ℕ) → j < k → judge_line file r bytes j ≡ Accepted
+  pub refused : judge_line file r bytes k ≡ Err x
+  pub before : (j : ℕ) → j < k → judge_line file r bytes j ≡ Ok tt
 
 -- too many bytes; or else more ranges held than there are cells; or else a line
 abbrev pub Cause : File → Ranges → List ℕ → Refusal → Type 0
@@ -74,30 +73,30 @@ Cause file r bytes x =
     ⊎ ((length bytes ≤ 65536) × (room r < r.held) × (x ≡ refusal 14 Neither 0))
     ⊎ ((length bytes ≤ 65536) × (r.held ≤ room r) × (k : ℕ) × RefusedAt file r bytes x k)
 
-same_refusal : {x y : Refusal} → Refused x ≡ Refused y → y ≡ x
+same_refusal : {x y : Refusal} → ◌≡◌ {A = Verdict} (Err x) (Err y) → y ≡ x
 same_refusal e = cc
 
 module _ (file : File) (r : Ranges) (bytes : List ℕ) (x : Refusal) where
   -- "the lowest line decides, in it the lowest number": refused exactly when
-  pub read_refused_first : read_verdict file r bytes ≡ Refused x → Cause file r bytes x
+  pub read_refused_first : read_verdict file r bytes ≡ Err x → Cause file r bytes x
   unfolding read_verdict
   read_refused_first e = long (ltb 65536 (length bytes)) refl e
     where
       lines : Verdict
       lines = over (judge_line file r bytes) 0 (line_count bytes)
 
-      many : length bytes ≤ 65536 → (b : Bool) → ltb (room r) r.held ≡ b → refuse b 14 Neither 0 ⊳ lines ≡ Refused x → Cause file r bytes x
+      many : length bytes ≤ 65536 → (b : Bool) → ltb (room r) r.held ≡ b → refuse b 14 Neither 0 ⊳ lines ≡ Err x → Cause file r bytes x
       many s true h q = inr (inl (s, ltb-true (room r) r.held h, same_refusal q))
       many s false h q =
           let t : _ = over_first (judge_line file r bytes) x (line_count bytes) 0 q in
           inr (inr (s, ltb-false (room r) r.held h, t.0, record { within = omega (arith, t.2); refused = t.3; before = λ j l. t.4 j (omega arith) l }))
 
-      long : (b : Bool) → ltb 65536 (length bytes) ≡ b → refuse b 1 Neither 0 ⊳ refuse (ltb (room r) r.held) 14 Neither 0 ⊳ lines ≡ Refused x → Cause file r bytes x
+      long : (b : Bool) → ltb 65536 (length bytes) ≡ b → refuse b 1 Neither 0 ⊳ refuse (ltb (room r) r.held) 14 Neither 0 ⊳ lines ≡ Err x → Cause file r bytes x
       long true h q = inl (ltb-true 65536 (length bytes) h, same_refusal q)
       long false h q = many (ltb-false 65536 (length bytes) h) (ltb (room r) r.held) refl q
 
   -- and each of these refuses so
-  pub read_refused_only : Cause file r bytes x → read_verdict file r bytes ≡ Refused x
+  pub read_refused_only : Cause file r bytes x → read_verdict file r bytes ≡ Err x
   unfolding read_verdict
   read_refused_only (inl (h, e)) = rw (lt-ltb 65536 (length bytes) h, e)
   read_refused_only (inr (inl (s, h, e))) = rw (le-ltb 65536 (length bytes) s, lt-ltb (room r) r.held h, e)
@@ -106,7 +105,7 @@ module _ (file : File) (r : Ranges) (bytes : List ℕ) (x : Refusal) where
       (over_only (judge_line file r bytes) x (line_count bytes) 0 (k, omega arith, omega (arith, f.within), f.refused, λ j a b. f.before j b))
 
   -- "and then no column has changed"
-  pub refused_keeps : read_verdict file r bytes ≡ Refused x → read_ranges file r bytes ≡ r
+  pub refused_keeps : read_verdict file r bytes ≡ Err x → read_ranges file r bytes ≡ r
   unfolding read_ranges
   refused_keeps e = ap (λ v. read_into v file r bytes) e
 
@@ -114,11 +113,11 @@ module _ (file : File) (r : Ranges) (bytes : List ℕ) (x : Refusal) where
 
 -- the line holds this range, and its value is known
 abbrev pub Ranged : Line → Value → Held → Type 0
-Ranged line value h = (line ≡ Line.Range h.first h.last) × (value ≡ Found h.code)
+Ranged line value h = (line ≡ Line.Range h.first h.last) × (value ≡ Some h.code)
 
 -- it holds a range, and its value is not
 abbrev pub OfUnknown : Line → Value → Type 0
-OfUnknown line value = (first : ℕ) × (last : ℕ) × (line ≡ Line.Range first last) × (value ≡ Unknown)
+OfUnknown line value = (first : ℕ) × (last : ℕ) × (line ≡ Line.Range first last) × (value ≡ None)
 
 -- its range meets one of those before it
 abbrev pub Meets : Line → Value → List Held → Type 0
@@ -136,17 +135,17 @@ Why line value before cells number x =
     ⊎ ((x ≡ refusal 13 Neither number) × Meets line value before)
     ⊎ ((x ≡ refusal 14 Neither number) × NoCell line value before cells)
 
-why : (line : Line) (value : Value) (before : List Held) (cells number : ℕ) (x : Refusal) → judge_ruling (ruled line value) before cells number ≡ Refused x → Why line value before cells number x
+why : (line : Line) (value : Value) (before : List Held) (cells number : ℕ) (x : Refusal) → judge_ruling (ruled line value) before cells number ≡ Err x → Why line value before cells number x
 why Line.Skipped value before cells number x e = never (sym e)
 why Line.Malformed value before cells number x e = inl (same_refusal e, refl)
-why (Line.Range f l) Unknown before cells number x e = inr (inl (same_refusal e, (f, l, refl, refl)))
-why (Line.Range f l) (Found c) before cells number x e = go (met f l before) refl e
+why (Line.Range f l) None before cells number x e = inr (inl (same_refusal e, (f, l, refl, refl)))
+why (Line.Range f l) (Some c) before cells number x e = go (met f l before) refl e
   where
-    full : met f l before ≡ false → (b : Bool) → leb cells (length before) ≡ b → refuse b 14 Neither number ≡ Refused x → Why (Line.Range f l) (Found c) before cells number x
+    full : met f l before ≡ false → (b : Bool) → leb cells (length before) ≡ b → refuse b 14 Neither number ≡ Err x → Why (Line.Range f l) (Some c) before cells number x
     full m true h q = inr (inr (inr (same_refusal q, (holding f l c, (refl, refl), m, leb-true cells (length before) h))))
     full m false h q = never (sym q)
 
-    go : (b : Bool) → met f l before ≡ b → refuse b 13 Neither number ⊳ refuse (leb cells (length before)) 14 Neither number ≡ Refused x → Why (Line.Range f l) (Found c) before cells number x
+    go : (b : Bool) → met f l before ≡ b → refuse b 13 Neither number ⊳ refuse (leb cells (length before)) 14 Neither number ≡ Err x → Why (Line.Range f l) (Some c) before cells number x
     go true h q = inr (inr (inl (same_refusal q, (holding f l c, (refl, refl), h))))
     go false h q = full h (leb cells (length before)) refl q
 
@@ -192,11 +191,11 @@ before_it file r bytes k = said file bytes k ++ held_of r
 
 module _ (file : File) (r : Ranges) (bytes : List ℕ) (k : ℕ) where
   -- a line is refused 11 to 14 and no other, and each refusal "carries its line number, from 1 in the bytes lent"
-  pub line_why : (x : Refusal) → judge_line file r bytes k ≡ Refused x → Why (line_at bytes k) (value_at file bytes k) (before_it file r bytes k) (room r) (k + 1) x
+  pub line_why : (x : Refusal) → judge_line file r bytes k ≡ Err x → Why (line_at bytes k) (value_at file bytes k) (before_it file r bytes k) (room r) (k + 1) x
   unfolding judge_line ruling_of
   line_why x e = why (line_at bytes k) (value_at file bytes k) (before_it file r bytes k) (room r) (k + 1) x e
 
-  pub line_number : (x : Refusal) → judge_line file r bytes k ≡ Refused x → x.index ≡ k + 1
+  pub line_number : (x : Refusal) → judge_line file r bytes k ≡ Err x → x.index ≡ k + 1
   line_number x e = go (line_why x e)
     where
       go : Why (line_at bytes k) (value_at file bytes k) (before_it file r bytes k) (room r) (k + 1) x → x.index ≡ k + 1

@@ -1,10 +1,12 @@
 -- A walk over a text of names is the walk over the rows of its table. Assumes nothing.
+use Rattle.std.specs.Prelude.{Some, None}
 use Prim.Native.Nat.{ℕ, zero, suc, ◌+◌, ◌<◌, ◌≤◌}
 use mathlib.Core.Path.{◌≡◌, refl, sym, ◌∙◌}
 use mathlib.Core.Bool.{Bool, true, false, cond, false≢true}
 use mathlib.Core.List.{List}
 use native.Mathlib.Numerals.{add-one}
 use lib.Dec.{eqb}
+use lib.Pointwise.{pointwise, bytes_decides}
 use lib.ListN.{length, get_or, drop, drop_of_length-le}
 use lib.Seq.{drop-cons, ext_get_or}
 use borrow.Author.Tests.{eq-eqb, eqb-true}
@@ -13,10 +15,7 @@ use Rattle.basics.proofs.Sets.{every_at}
 use Rattle.basics.proofs.Tests.{both, by_test}
 use Rattle.cases.specs.Spans.{up_to, after, next_from, agree, equal}
 use Rattle.cases.proofs.Splits.{next_after_lem}
-use Rattle.properties.specs.declared.Value.{Value}
-use Rattle.properties.specs.declared.Value.TheVariants.{Found, Unknown}
-use Rattle.properties.specs.declared.File.{File}
-use Rattle.properties.specs.Names.{names_of, old_names, among, code_of}
+use Rattle.properties.specs.Names.{among}
 use Rattle.properties.specs.Inner.{rows}
 
 agree_self : (xs : List ℕ) (n : ℕ) → every (agree xs xs) n ≡ true
@@ -43,30 +42,20 @@ abbrev pub Left : List ℕ → List ℕ → List ℕ → ℕ → ℕ → Type 0
 Left names codes value at i = among (rows (drop at names) (drop i codes)) value ≡ among (rows names codes) value
 
 module _ (names codes value : List ℕ) (at i : ℕ) (left : Left names codes value at i) where
-  pub left_over : length codes ≤ i → Unknown ≡ among (rows names codes) value
+  pub left_over : length codes ≤ i → None ≡ among (rows names codes) value
   unfolding among
   left_over h = rw (drop_of_length-le codes h) at left
 
   -- p is the name there, and t what was said of the two
-  module _ (h : i < length codes) (p : List ℕ) (e : p ≡ up_to 32 (drop at names)) (t : Bool) (s : (t ≡ true → p ≡ value) × (p ≡ value → t ≡ true)) where
-    here : cond (equal p value) (Found (get_or codes i 0)) (among (rows (after 32 (drop at names)) (drop (i + 1) codes)) value) ≡ among (rows names codes) value
+  module _ (h : i < length codes) (p : List ℕ) (e : p ≡ up_to 32 (drop at names)) (t : Bool) (s : t ≡ pointwise eqb p value) where
+    here : cond (equal p value) (Some (get_or codes i 0)) (among (rows (after 32 (drop at names)) (drop (i + 1) codes)) value) ≡ among (rows names codes) value
     unfolding among
     here = rw (e, add-one i) (rw (drop-cons codes i 0 h) at left)
 
-    pub left_found : t ≡ true → Found (get_or codes i 0) ≡ among (rows names codes) value
-    left_found k = rw (equal_same p value (s.0 k)) at here
+    pub left_found : t ≡ true → Some (get_or codes i 0) ≡ among (rows names codes) value
+    left_found k = rw (equal_same p value ((bytes_decides p value).0 (sym s ∙ k))) at here
 
     pub left_more : t ≡ false → (next : ℕ) → next ≡ next_from 32 at names → Left names codes value next (i + 1)
     left_more k next n =
-        let d : equal p value ≡ false = equal_differ p value (λ q. false≢true (sym k ∙ s.1 q)) in
+        let d : equal p value ≡ false = equal_differ p value (λ q. false≢true (sym k ∙ s ∙ (bytes_decides p value).1 q)) in
         rw (n, next_after_lem 32 at names) (rw d at here)
-
--- the names of the file, and then the old ones
-module _ (file : File) (value : List ℕ) (code : Value) (e : code ≡ among (names_of file) value) where
-  pub code_new : (c : ℕ) → code ≡ Found c → code ≡ code_of file value
-  unfolding code_of
-  code_new c h = rw (← e, h)
-
-  pub code_old : (r : Value) → code ≡ Unknown → r ≡ among old_names value → r ≡ code_of file value
-  unfolding code_of
-  code_old r h k = rw (← e, h) k

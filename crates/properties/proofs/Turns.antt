@@ -1,4 +1,5 @@
 -- The lines in turn: what is noted and judged of them so far. Assumes nothing.
+use Rattle.std.specs.Prelude.{Ok, Err}
 use Prim.Native.Nat.{ℕ, zero, suc, ◌+◌, ◌-◌, ◌<◌, ◌≤◌}
 use mathlib.Core.Path.{◌≡◌, refl, sym, ◌∙◌, ap}
 use mathlib.Core.Bool.{Bool, true, false, ◌||◌}
@@ -14,16 +15,15 @@ use Rattle.cases.specs.Spans.{before, up_to, after, next_from, rest, span}
 use Rattle.cases.proofs.Splits.{before_within, rest_more, span_read}
 use Rattle.records.specs.Text.{cell}
 use Rattle.records.specs.declared.Refusal.{Refusal}
-use Rattle.records.specs.declared.Verdict.{Verdict}
-use Rattle.records.specs.declared.Verdict.TheVariants.{Accepted, Refused}
+use Rattle.records.specs.Verdict.{Verdict}
 use Rattle.records.proofs.Over.{Rest, rest_all, rest_refused, rest_next}
-use Rattle.records.proofs.Verdicts.{never, each_over}
+use Rattle.records.proofs.Verdicts.{each_over}
 use Rattle.properties.specs.declared.File.{File}
 use Rattle.properties.specs.declared.Ruling.{Ruling}
 use Rattle.properties.specs.Lines.{leading, ending, untailed, trimmed, without_CR, body_of, line_of}
 use Rattle.properties.specs.Rulings.{ruling_of}
 use Rattle.properties.specs.Reading.{held_from, said_by, said, share, met, line_count}
-use Rattle.properties.specs.Inner.{some, met_in, met_by, met_said, judge_met, judge_free, NotedBy, Collects}
+use Rattle.properties.specs.Inner.{some, met_in, met_by, met_said, judge_met, judge_free, NotedBy, Collected, Collects}
 use Rattle.properties.proofs.Insertions.{held_length}
 use Rattle.properties.proofs.Long.{said_bytes, said_one}
 
@@ -40,7 +40,7 @@ met_list firsts lasts codes n (Ruling.Refused refused) = refl
 met_list firsts lasts codes n (Ruling.Range first last code) = met_rows firsts lasts codes n first last
 
 -- a line that is accepted has found a cell
-accepted_fits : (ruling : Ruling) (met : Bool) (free n number : ℕ) → judge_met ruling met (leb free n) number ≡ Accepted → n ≤ free → length (said_by ruling) + n ≤ free
+accepted_fits : (ruling : Ruling) (met : Bool) (free n number : ℕ) → judge_met ruling met (leb free n) number ≡ Ok tt → n ≤ free → length (said_by ruling) + n ≤ free
 accepted_fits Ruling.Nothing met free n number e h = omega arith
 accepted_fits (Ruling.Refused refused) met free n number e h = omega arith
 accepted_fits (Ruling.Range first last code) true free n number e h = absurd (let z : ◌≡◌ {A = ℕ} 0 1 = cc in omega arith)
@@ -119,16 +119,16 @@ module _ (file : File) (bytes firsts lasts : List ℕ) (held free : ℕ) where
       unfolding judge_free
       line_judged_lem = j ∙ rw (b, earlier_said, ruled_line, noted_count)
 
-      pub turn_refused : (x : Refusal) → v ≡ Refused x → length bytes ≤ 65536 → Collects file bytes firsts lasts held free (record { verdict = v; count = n }) newFirsts newLasts newCodes
-      turn_refused x q short =
-          record {
-            judged = rest_refused (judge_free file bytes firsts lasts held free) (line_count bytes) k turn.judged v line_judged_lem x (omega (arith, turn.counted)) q;
-            noted = λ a. never (sym q ∙ a);
-            few = omega (arith, turn.bytes_before_lem h);
-            fits = turn.fits;
-          }
+      pub turn_refused : (x : Refusal) → v ≡ Err x → length bytes ≤ 65536 → (r' : Collected) → r' ≡ Err x → Collects file bytes firsts lasts held free r' newFirsts newLasts newCodes
+      turn_refused x q short r' f =
+          rw f (record {
+            judged = sym q ∙ rest_refused (judge_free file bytes firsts lasts held free) (line_count bytes) k turn.judged v line_judged_lem x (omega (arith, turn.counted)) q;
+            noted = λ m a. absurd (let z : ◌≡◌ {A = ℕ} 0 1 = cc in omega arith);
+            few = λ m a. absurd (let z : ◌≡◌ {A = ℕ} 0 1 = cc in omega arith);
+            fits = λ m a. absurd (let z : ◌≡◌ {A = ℕ} 0 1 = cc in omega arith);
+          })
 
-      pub turn_goes : v ≡ Accepted → (m next : ℕ) (firsts' lasts' codes' : List ℕ) → NotedBy ruling newFirsts newLasts newCodes n m firsts' lasts' codes' → next ≡ next_from 10 at bytes → Turn firsts' lasts' codes' next (k + 1) m
+      pub turn_goes : v ≡ Ok tt → (m next : ℕ) (firsts' lasts' codes' : List ℕ) → NotedBy ruling newFirsts newLasts newCodes n m firsts' lasts' codes' → next ≡ next_from 10 at bytes → Turn firsts' lasts' codes' next (k + 1) m
       unfolding said
       turn_goes q m next firsts' lasts' codes' note x =
           let far : Next bytes at h part next = next_is_lem bytes at h part next p x in
@@ -162,7 +162,7 @@ module _ (file : File) (bytes firsts lasts : List ℕ) (held free : ℕ) where
     unfolding ruling_of line_of body_of without_CR trimmed untailed leading ending up_to before
     empty_ruling = rw empty_line
 
-    empty_judged : judge_free file bytes firsts lasts held free i ≡ Accepted
+    empty_judged : judge_free file bytes firsts lasts held free i ≡ Ok tt
     unfolding judge_free
     empty_judged = rw empty_ruling
 
@@ -171,13 +171,13 @@ module _ (file : File) (bytes firsts lasts : List ℕ) (held free : ℕ) where
   empty_said k e zero = let z : 0 + k ≡ k = omega arith in rw z
   empty_said k e (suc j) = let z : suc j + k ≡ suc (j + k) = omega arith in rw (z, empty_ruling k e (j + k) (omega arith)) (empty_said k e j)
 
-  pub turns_end : (newFirsts newLasts newCodes : List ℕ) (at k n : ℕ) → Turn newFirsts newLasts newCodes at k n → length bytes ≤ at → length bytes ≤ 65536 → Collects file bytes firsts lasts held free (record { verdict = Accepted; count = n }) newFirsts newLasts newCodes
+  pub turns_end : (newFirsts newLasts newCodes : List ℕ) (at k n : ℕ) → Turn newFirsts newLasts newCodes at k n → length bytes ≤ at → length bytes ≤ 65536 → Collects file bytes firsts lasts held free (Ok n) newFirsts newLasts newCodes
   turns_end newFirsts newLasts newCodes at k n turn h short =
       let over_all : rest 10 k bytes ≡ [] = sym turn.left ∙ drop_of_length-le bytes h in
       let lines : line_count bytes - k + k ≡ line_count bytes = omega (arith, turn.counted, turn.inside) in
       record {
         judged = sym (each_over (judge_free file bytes firsts lasts held free) (line_count bytes - k) k (λ i l m. empty_judged k over_all i l)) ∙ turn.judged;
-        noted = λ a. turn.noted ∙ sym (empty_said k over_all (line_count bytes - k)) ∙ ap (said file bytes) lines;
-        few = omega (arith, turn.bytes_most, turn.inside);
-        fits = turn.fits;
+        noted = λ m a. let e : n ≡ m = cc in rw (← e) (turn.noted ∙ sym (empty_said k over_all (line_count bytes - k)) ∙ ap (said file bytes) lines);
+        few = λ m a. let e : n ≡ m = cc in omega (arith, turn.bytes_most, turn.inside);
+        fits = λ m a. let e : n ≡ m = cc in omega (arith, turn.fits);
       }

@@ -4,13 +4,11 @@
 --     line    = blanks [ scalars blanks ";" blanks value blanks ] [ "#" anything ]
 --     scalars = hex [ ".." hex ]
 --     value   = one or more bytes, none of them a blank, ";" or "#"
-use Rattle.std.specs.Prelude.{ℕ, zero, suc, ◌+◌, ◌-◌, Bool, cond, ◌||◌, List, [], ◌∷◌, eqb, leb, length, get_or, take, drop}
+use Rattle.std.specs.Prelude.{ℕ, zero, suc, ◌+◌, ◌-◌, Bool, cond, ◌||◌, List, [], ◌∷◌, eqb, leb, length, get_or, take, drop, Some, None}
 use Prim.Native.Char.{code}
 use Rattle.basics.specs.Choices.{◌⇒◌▹◌}
 use Rattle.basics.specs.Sets.{any}
-use Rattle.cases.specs.declared.numbers.Number.{Number}
-use Rattle.cases.specs.declared.numbers.Number.TheVariants.{Value, Nothing}
-use Rattle.cases.specs.Numbers.{number_of}
+use Rattle.cases.specs.Numbers.{number_of, Number}
 use Rattle.cases.specs.Spans.{before, up_to, after}
 use Rattle.properties.specs.declared.Line.{Line}
 use Rattle.properties.specs.declared.Line.TheVariants.{Skipped, Malformed, Range}
@@ -69,13 +67,13 @@ unfoldable pub last_of : List ℕ → Number
 last_of scalars =
     leb (length scalars) (before (code ".") scalars) ⇒ first_of scalars
     ▹ eqb (get_or scalars (before (code ".") scalars + 1) 0) (code ".") ⇒ hex (drop (before (code ".") scalars + 2) scalars)
-    ▹ Nothing
+    ▹ None
 
 -- "a range that runs downward is malformed"
 abbrev pub range_of : Number → Number → Line
-range_of Nothing last = Malformed
-range_of (Value first) Nothing = Malformed
-range_of (Value first) (Value last) = leb first last ⇒ Range first last ▹ Malformed
+range_of None last = Malformed
+range_of (Some first) None = Malformed
+range_of (Some first) (Some last) = leb first last ⇒ Range first last ▹ Malformed
 
 -- a line without its LF
 unfoldable pub line_of : List ℕ → Line

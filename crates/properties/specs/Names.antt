@@ -1,5 +1,5 @@
 -- "The reader needs the value names of both files with their codes."
-use Rattle.std.specs.Prelude.{ℕ, cond, List, [], ◌∷◌}
+use Rattle.std.specs.Prelude.{ℕ, cond, List, [], ◌∷◌, Option, Some, None}
 use Prim.Native.Char.{code}
 use Prim.Native.String.{String}
 use Rattle.classes.specs.ClusterBreak as ClusterBreak
@@ -7,8 +7,6 @@ use Rattle.classes.specs.WordBreak as WordBreak
 use Rattle.cases.specs.Spans.{equal}
 use Rattle.properties.specs.declared.File.{File}
 use Rattle.properties.specs.declared.File.TheVariants.{Cluster, Word}
-use Rattle.properties.specs.declared.Value.{Value}
-use Rattle.properties.specs.declared.Value.TheVariants.{Found, Unknown}
 
 -- the bytes of a text of ASCII
 abbrev pub ascii : String → List ℕ
@@ -78,14 +76,18 @@ names_of Word = word_names
 abbrev pub old_names : List Named
 old_names = named "E_Base" 0 ∷ named "E_Modifier" 0 ∷ named "Glue_After_Zwj" 0 ∷ named "E_Base_GAZ" 0 ∷ []
 
+-- what the value of a line stands for
+abbrev pub Value : Type 0
+Value = Option ℕ
+
 -- the code of the first row that has the name, byte by byte
 unfoldable pub among : List Named → List ℕ → Value
-among [] value = Unknown
-among (n ∷ ns) value = cond (equal n.name value) (Found n.means) (among ns value)
+among [] value = None
+among (n ∷ ns) value = cond (equal n.name value) (Some n.means) (among ns value)
 
 abbrev pub or_else : Value → Value → Value
-or_else (Found c) later = Found c
-or_else Unknown later = later
+or_else (Some c) later = Some c
+or_else None later = later
 
 -- what a value stands for: it is of its file alone, and in the case of its letters as published. 12 is "unknown value"
 unfoldable pub code_of : File → List ℕ → Value

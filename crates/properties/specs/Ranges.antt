@@ -1,12 +1,11 @@
 -- Range columns and the lookup of a text's classes.
-use Rattle.std.specs.Prelude.{ℕ, zero, suc, ◌+◌, ◌<◌, ◌≤◌, min, Bool, cond, ◌&&◌, List, [], ◌∷◌, ◌++◌, leb, ltb, length, drop}
+use Rattle.std.specs.Prelude.{ℕ, zero, suc, ◌+◌, ◌<◌, ◌≤◌, min, Bool, cond, ◌&&◌, List, [], ◌∷◌, ◌++◌, leb, ltb, length, drop, Ok, Err}
 use Rattle.basics.specs.Columns.{cells}
 use Rattle.records.specs.Text.{cell}
 use Rattle.records.specs.Refusals.{refuse, ◌⊳◌, over, bad_scalar}
 use Rattle.records.specs.Offences.{Table, line}
 use Rattle.records.specs.declared.Side.TheVariants.{Record, Neither}
-use Rattle.records.specs.declared.Verdict.{Verdict}
-use Rattle.records.specs.declared.Verdict.TheVariants.{Accepted, Refused}
+use Rattle.records.specs.Verdict.{Verdict}
 
 -- the ranges of one file: the first scalar, the last scalar and the code of each, and how many are held
 pub record Ranges : Type 0 where
@@ -60,8 +59,8 @@ class_at r scalars i = code_in r (cell scalars i)
 
 -- "a lookup fills the two class columns of a text"; cells past the text keep their content, and with a refusal all do
 abbrev pub filled : Verdict → Ranges → List ℕ → List ℕ → List ℕ
-filled Accepted r scalars out = cells (class_at r scalars) (length scalars) ++ drop (length scalars) out
-filled (Refused refusal) r scalars out = out
+filled (Ok _) r scalars out = cells (class_at r scalars) (length scalars) ++ drop (length scalars) out
+filled (Err refusal) r scalars out = out
 
 -- the lines of the table of refusals (SCOPE 5.1) that are the lookup's: 3 of each scalar, then 9
 abbrev pub lookup_table : List ℕ → ℕ → ℕ → Table

@@ -1,13 +1,12 @@
 -- What the reader says of the lent bytes, and what it leaves in the range columns. "From the lent bytes .. it fills range columns in scalar
 -- order". "Refusals: 11 malformed line, 12 unknown value, 13 range that meets one held or earlier, 14 more ranges than cells; the lowest
 -- line decides, in it the lowest number, and then no column has changed."
-use Rattle.std.specs.Prelude.{ℕ, zero, suc, ◌+◌, min, ◌≡◌, Bool, false, cond, ◌&&◌, ◌||◌, List, [], ◌∷◌, ◌++◌, leb, ltb, length, drop}
+use Rattle.std.specs.Prelude.{ℕ, zero, suc, ◌+◌, min, ◌≡◌, Bool, false, cond, ◌&&◌, ◌||◌, List, [], ◌∷◌, ◌++◌, leb, ltb, length, drop, Ok, Err}
 use Rattle.cases.specs.Spans.{span}
 use Rattle.records.specs.Text.{cell}
 use Rattle.records.specs.Refusals.{refuse, refusal, ◌⊳◌, over}
 use Rattle.records.specs.declared.Side.TheVariants.{Neither}
-use Rattle.records.specs.declared.Verdict.{Verdict}
-use Rattle.records.specs.declared.Verdict.TheVariants.{Accepted, Refused}
+use Rattle.records.specs.Verdict.{Verdict}
 use Rattle.properties.specs.declared.File.{File}
 use Rattle.properties.specs.declared.Filled.{Filled}
 use Rattle.properties.specs.declared.Ruling.{Ruling}
@@ -63,12 +62,12 @@ met first last [] = false
 met first last (h ∷ hs) = share first last h.first h.last || met first last hs
 
 abbrev pub refused_at : ℕ → ℕ → Verdict
-refused_at refused number = Refused (refusal refused Neither number)
+refused_at refused number = Err (refusal refused Neither number)
 
 -- a line's refusal, which "carries its line number, from 1 in the bytes lent": 11 and 12, then 13 and 14; `before` are the ranges held and
 -- of earlier lines
 abbrev pub judge_ruling : Ruling → List Held → ℕ → ℕ → Verdict
-judge_ruling Ruling.Nothing before cells number = Accepted
+judge_ruling Ruling.Nothing before cells number = Ok tt
 judge_ruling (Ruling.Refused refused) before cells number = refused_at refused number
 judge_ruling (Ruling.Range first last code) before cells number =
     refuse (met first last before) 13 Neither number ⊳ refuse (leb cells (length before)) 14 Neither number
@@ -123,8 +122,8 @@ put_into r xs = stored_in r (put_all (held_of r) xs)
 
 -- with a refusal "no column has changed"
 abbrev pub read_into : Verdict → File → Ranges → List ℕ → Ranges
-read_into Accepted file r bytes = put_into r (said file bytes (line_count bytes))
-read_into (Refused refusal) file r bytes = r
+read_into (Ok _) file r bytes = put_into r (said file bytes (line_count bytes))
+read_into (Err refusal) file r bytes = r
 
 unfoldable pub read_ranges : File → Ranges → List ℕ → Ranges
 read_ranges file r bytes = read_into (read_verdict file r bytes) file r bytes

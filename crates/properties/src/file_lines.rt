@@ -4,80 +4,70 @@ ghost use Rattle.properties.specs.Lines as Lines;
 ghost use Rattle.properties.specs.Lines.{is_blank, trimmed, without_CR, body_of, scalars_of, value_of, no_value, first_of, last_of, range_of, line_of, value_in};
 
 use crate::Line;
-use cases::{Base, Number, next_of, read_number, span_at};
+use cases::{Base, next_of, read_number, span_at};
 
+#[tactic(auto, unfolding(crate::specs::Lines::is_blank))]
 fn is_blank(b: u8) -> bool
     ensures { result ≡ is_blank b }
 {
-    if b == b' ' {
-        return true;
-    }
-    b == b'\t'
+    matches!(b, b' ' | b'\t')
 }
 
 fn leading(bytes: &[u8]) -> usize
     ensures value { result ≡ Lines.leading bytes.now }
     ensures upper_bound { result ≤ length bytes.now }
 {
-    let mut i: usize = 0;
-    while i < bytes.len() {
-        if is_blank(bytes[i]) {
-            i += 1;
-        } else {
+    for i in 0..bytes.len() {
+        if !is_blank(bytes[i]) {
             return i;
         }
     }
-    i
+    bytes.len()
 }
 
 fn ending(bytes: &[u8]) -> usize
     ensures value { result ≡ Lines.ending bytes.now (length bytes.now) }
     ensures upper_bound { result ≤ length bytes.now }
 {
-    let mut n = bytes.len();
-    while 0 < n {
-        if is_blank(bytes[n - 1]) {
-            n -= 1;
-        } else {
-            return n;
+    for i in (0..bytes.len()).rev() {
+        if !is_blank(bytes[i]) {
+            return i + 1;
         }
     }
-    n
+    0
 }
 
+#[tactic(auto, unfolding(crate::specs::Lines::untailed))]
 fn untailed(bytes: &[u8]) -> &[u8]
     ensures { result.now ≡ Lines.untailed bytes.now }
 {
-    let n = ending(bytes);
-    &bytes[..n]
+    &bytes[..ending(bytes)]
 }
 
 fn trim(bytes: &[u8]) -> &[u8]
     ensures { result.now ≡ trimmed bytes.now }
 {
-    let i = leading(bytes);
-    untailed(&bytes[i..])
+    untailed(&bytes[leading(bytes)..])
 }
 
+#[tactic(auto, unfolding(crate::specs::Lines::without_CR))]
 fn without_cr(line: &[u8]) -> &[u8]
     ensures { result.now ≡ without_CR line.now }
 {
-    if line.len() == 0 {
-        return line;
+    match line {
+        [rest @ .., b'\r'] => rest,
+        _ => line,
     }
-    let n = line.len() - 1;
-    if line[n] == b'\r' {
-        return &line[..n];
-    }
-    line
 }
 
+#[tactic(auto, unfolding(crate::specs::Lines::body_of))]
 fn body_of(line: &[u8]) -> &[u8]
     ensures { result.now ≡ body_of line.now }
 {
     trim(span_at(without_cr(line), 0, b'#'))
 }
 
+#[tactic(auto, unfolding(crate::specs::Lines::scalars_of))]
 fn scalars_of(body: &[u8]) -> &[u8]
     ensures { result.now ≡ scalars_of body.now }
 {
@@ -87,49 +77,38 @@ fn scalars_of(body: &[u8]) -> &[u8]
 fn value_of(body: &[u8]) -> &[u8]
     ensures { result.now ≡ value_of body.now }
 {
-    let at = next_of(body, 0, b';');
-    trim(&body[at..])
+    trim(&body[next_of(body, 0, b';')..])
 }
 
 // What a value cannot have within.
+#[tactic(auto, unfolding(crate::specs::Lines::is_between))]
 fn is_between(b: u8) -> bool
     ensures { result ≡ Lines.is_between b }
 {
-    if is_blank(b) {
-        return true;
-    }
-    b == b';'
+    is_blank(b) || b == b';'
 }
 
 fn is_no_value(value: &[u8]) -> bool
     ensures { result ≡ no_value value.now }
 {
-    if value.len() == 0 {
-        return true;
-    }
-    let mut i: usize = 0;
-    while i < value.len() {
-        if is_between(value[i]) {
-            return true;
-        }
-        i += 1;
-    }
-    false
+    value.is_empty() || value.iter().any(|&b| is_between(b))
 }
 
-fn hex(digits: &[u8]) -> Number
+#[tactic(auto, unfolding(crate::specs::Lines::hex))]
+fn hex(digits: &[u8]) -> Option<u32>
     ensures { result ≡ Lines.hex digits.now }
 {
     read_number(digits, Base::Hexadecimal, 0x10FFFF)
 }
 
-fn first_of(scalars: &[u8]) -> Number
+#[tactic(auto, unfolding(crate::specs::Lines::first_of))]
+fn first_of(scalars: &[u8]) -> Option<u32>
     ensures { result ≡ first_of scalars.now }
 {
     hex(span_at(scalars, 0, b'.'))
 }
 
-fn last_of(scalars: &[u8]) -> Number
+fn last_of(scalars: &[u8]) -> Option<u32>
     ensures { result ≡ last_of scalars.now }
 {
     let end = span_at(scalars, 0, b'.').len();
@@ -138,36 +117,31 @@ fn last_of(scalars: &[u8]) -> Number
     }
     let second = end + 1;
     if scalars.len() <= second {
-        return Number::Nothing;
+        return None;
     }
     if scalars[second] == b'.' {
-        let from = second + 1;
-        return hex(&scalars[from..]);
+        hex(&scalars[second + 1..])
+    } else {
+        None
     }
-    Number::Nothing
 }
 
-fn range_of(first: Number, last: Number) -> Line
+fn range_of(first: Option<u32>, last: Option<u32>) -> Line
     ensures { result ≡ range_of first last }
 {
-    let Number::Value(a) = first else {
-        return Line::Malformed;
-    };
-    let Number::Value(b) = last else {
-        return Line::Malformed;
-    };
-    if a <= b {
-        return Line::Range { first: a, last: b };
+    match (first, last) {
+        (Some(first), Some(last)) if first <= last => Line::Range { first, last },
+        _ => Line::Malformed,
     }
-    Line::Malformed
 }
 
 // What a line holds. The value of one that holds a range is in `value_in`.
+#[tactic(auto, unfolding(crate::specs::Lines::line_of))]
 pub fn line_of(line: &[u8]) -> Line
     ensures { result ≡ line_of line.now }
 {
     let body = body_of(line);
-    if body.len() == 0 {
+    if body.is_empty() {
         return Line::Skipped;
     }
     if is_no_value(value_of(body)) {
@@ -178,6 +152,7 @@ pub fn line_of(line: &[u8]) -> Line
 }
 
 // The bytes of a line's value.
+#[tactic(auto, unfolding(crate::specs::Lines::value_in))]
 pub fn value_in(line: &[u8]) -> &[u8]
     ensures { result.now ≡ value_in line.now }
 {

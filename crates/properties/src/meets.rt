@@ -5,13 +5,11 @@ ghost use Rattle.properties.specs.Inner.{met_in, met_by};
 
 use crate::Ruling;
 
+#[tactic(auto, unfolding(crate::specs::Reading::share))]
 fn shares(first: u32, last: u32, f: u32, l: u32) -> bool
     ensures { result ≡ share first last f l }
 {
-    if f <= last {
-        return first <= l;
-    }
-    false
+    f <= last && first <= l
 }
 
 // One of the first n ranges of the columns.
@@ -19,28 +17,22 @@ fn met_in(firsts: &[u32], lasts: &[u32], n: usize, first: u32, last: u32) -> boo
     requires { (n ≤ length firsts.now) × (n ≤ length lasts.now) }
     ensures { result ≡ met_in firsts.now lasts.now n first last }
 {
-    let mut k: usize = 0;
-    while k < n {
+    for k in 0..n {
         if shares(first, last, firsts[k], lasts[k]) {
             return true;
         }
-        k += 1;
     }
     false
 }
 
 // Whether the range of a line meets one among the first n.
+#[tactic(auto, unfolding(crate::specs::Inner::met_by))]
 pub(crate) fn met_by(ruling: Ruling, firsts: &[u32], lasts: &[u32], n: usize) -> bool
     requires { (n ≤ length firsts.now) × (n ≤ length lasts.now) }
     ensures { result ≡ met_by firsts.now lasts.now n ruling }
 {
     match ruling {
-        Ruling::Nothing => false,
-        Ruling::Refused(_) => false,
-        Ruling::Range {
-            first,
-            last,
-            code: _,
-        } => met_in(firsts, lasts, n, first, last),
+        Ruling::Nothing | Ruling::Refused(_) => false,
+        Ruling::Range { first, last, .. } => met_in(firsts, lasts, n, first, last),
     }
 }

@@ -3,25 +3,22 @@ ghost use Rattle.std.specs.Prelude.{◌≡◌};
 ghost use Rattle.properties.specs.Names.{cluster_names, word_names, old_names, names_of, among, code_of};
 ghost use Rattle.properties.specs.Inner.{rows};
 
-use crate::{File, Value};
+use crate::File;
 use cases::{next_of, span_at};
-use check::same;
 use classes::{cluster_break, word_break};
 
 // The code of a name among names with one blank between.
-fn find(names: &[u8], codes: &[u8], value: &[u8]) -> Value
+fn find(names: &[u8], codes: &[u8], value: &[u8]) -> Option<u8>
     ensures { result ≡ among (rows names.now codes.now) value.now }
 {
     let mut at: usize = 0;
-    let mut i: usize = 0;
-    while i < codes.len() {
-        if same(span_at(names, at, b' '), value) {
-            return Value::Found(codes[i]);
+    for &code in codes {
+        if span_at(names, at, b' ') == value {
+            return Some(code);
         }
         at = next_of(names, at, b' ');
-        i += 1;
     }
-    Value::Unknown
+    None
 }
 
 // In the order of the names, and so for words.
@@ -42,7 +39,7 @@ const CLUSTER_CODES: [u8; 14] = [
     cluster_break::PP,
 ];
 
-fn cluster_code(value: &[u8]) -> Value
+fn cluster_code(value: &[u8]) -> Option<u8>
     ensures { result ≡ among cluster_names value.now }
 {
     find(
@@ -74,7 +71,7 @@ const WORD_CODES: [u8; 19] = [
     word_break::RI,
 ];
 
-fn word_code(value: &[u8]) -> Value
+fn word_code(value: &[u8]) -> Option<u8>
     ensures { result ≡ among word_names value.now }
 {
     find(
@@ -84,7 +81,7 @@ fn word_code(value: &[u8]) -> Value
     )
 }
 
-fn file_code(file: File, value: &[u8]) -> Value
+fn file_code(file: File, value: &[u8]) -> Option<u8>
     ensures { result ≡ among (names_of file) value.now }
 {
     match file {
@@ -94,7 +91,7 @@ fn file_code(file: File, value: &[u8]) -> Value
 }
 
 // Of Unicode 9 and 10, in both files.
-fn old_code(value: &[u8]) -> Value
+fn old_code(value: &[u8]) -> Option<u8>
     ensures { result ≡ among old_names value.now }
 {
     find(
@@ -105,12 +102,9 @@ fn old_code(value: &[u8]) -> Value
 }
 
 // What a value stands for in a file.
-pub fn code_of(file: File, value: &[u8]) -> Value
+#[tactic(auto, unfolding(crate::specs::Names::code_of))]
+pub fn code_of(file: File, value: &[u8]) -> Option<u8>
     ensures { result ≡ code_of file value.now }
 {
-    let code = file_code(file, value);
-    let Value::Unknown = code else {
-        return code;
-    };
-    old_code(value)
+    file_code(file, value).or_else(|| old_code(value))
 }

@@ -5,10 +5,10 @@ ghost use Rattle.properties.specs.Reading.{cells_of, HasRead};
 ghost use Rattle.properties.specs.Inner.{Readable};
 
 use crate::merging::fill;
-use crate::verdicts::{collect, refused};
+use crate::ranges::Rows;
+use crate::verdicts::collect;
 use crate::{File, Filled};
-use basics::shorter;
-use records::Verdict;
+use records::{Side, refused};
 
 // "64 KiB at most at a time"
 const MOST: usize = 65536;
@@ -16,10 +16,11 @@ const MOST: usize = 65536;
 // Beside the columns, for the ranges of one call: a line that holds a range has four bytes with its LF, and the last may lack that.
 const NEW: usize = 16384;
 
+#[tactic(auto, unfolding(crate::specs::Reading::cells_of))]
 fn cells_of(firsts: usize, lasts: usize, codes: usize) -> usize
     ensures { result ≡ cells_of firsts lasts codes }
 {
-    shorter(firsts, shorter(lasts, codes))
+    firsts.min(lasts.min(codes))
 }
 
 // The lines are judged before anything is written.
@@ -49,14 +50,23 @@ fn read_lines(
         &mut nlasts,
         &mut ncodes,
     );
-    let verdict = collected.verdict;
-    let Verdict::Accepted = verdict else {
-        return Filled { verdict, held };
+    let n = match collected {
+        Ok(n) => n,
+        Err(refusal) => {
+            return Filled {
+                verdict: Err(refusal),
+                held,
+            };
+        }
     };
-    let n = collected.count;
-    fill(firsts, lasts, codes, held, &nfirsts, &nlasts, &ncodes, n);
+    let new = Rows {
+        firsts: &nfirsts,
+        lasts: &nlasts,
+        codes: &ncodes,
+    };
+    fill(firsts, lasts, codes, held, &new, n);
     Filled {
-        verdict,
+        verdict: Ok(()),
         held: held + n,
     }
 }
@@ -75,14 +85,14 @@ pub fn read(
 {
     if MOST < bytes.len() {
         return Filled {
-            verdict: refused(1, 0),
+            verdict: refused(1, Side::Neither, 0),
             held,
         };
     }
     let cells = cells_of(firsts.len(), lasts.len(), codes.len());
     if cells < held {
         return Filled {
-            verdict: refused(14, 0),
+            verdict: refused(14, Side::Neither, 0),
             held,
         };
     }

@@ -6,13 +6,14 @@ use Rattle.records.proofs.Unique.{unique}
 use Rattle.segment.specs.Calls.{next_of}
 use Rattle.segment.specs.declared.Answer.{Answer}
 use Rattle.segment.specs.declared.Segmenter.{Segmenter}
-use Rattle.reader.specs.Reading.{Column, reader_of, answer_of, moved_to}
+use Rattle.records.specs.declared.Columns.{Columns}
+use Rattle.reader.specs.Reading.{answer_of, moved_to}
 use Rattle.reader.specs.declared.Reader.{Reader}
 
-module _ (state : Segmenter) (scalars breaks uses myanmars categories words semojis memojis cemojis pictographs selectors decomposes firsts counts pscalars pbreaks puses pcategories : Column) where
+module _ (state : Segmenter) (columns : Columns) where
   -- what `new` makes of them
   abbrev made : Reader
-  made = reader_of state scalars breaks uses myanmars categories words semojis memojis cemojis pictographs selectors decomposes firsts counts pscalars pbreaks puses pcategories
+  made = record { state = state; columns = columns }
 
   pub new_unique : (a b : Reader) → a ≡ made → b ≡ made → a ≡ b
   new_unique = unique made

@@ -1,5 +1,6 @@
 -- What the check says is what the table of SCOPE 5.1 says, and so is what every call says that begins with it and then looks for lines of
 -- its own; the same of a run over two columns, as the word run is. Assumes nothing.
+use Rattle.std.specs.Prelude.{Ok, Err}
 use Prim.Native.Nat.{ℕ, zero, suc, ◌+◌, ◌<◌}
 use mathlib.Core.Path.{◌≡◌, refl, sym, ◌∙◌, ap, subst}
 use mathlib.Core.Bool.{Bool, true, false, cond, ◌&&◌, ◌||◌, or-false, false≢true}
@@ -16,8 +17,7 @@ use Rattle.records.specs.declared.Side.{Side}
 use Rattle.records.specs.declared.Side.TheVariants.{Record, Part, Neither}
 use Rattle.records.specs.declared.Parser.{Parser}
 use Rattle.records.specs.declared.Parser.TheVariants.{Simple, Myanmar, Complex, Khmer}
-use Rattle.records.specs.declared.Verdict.{Verdict}
-use Rattle.records.specs.declared.Verdict.TheVariants.{Accepted, Refused}
+use Rattle.records.specs.Verdict.{Verdict}
 use Rattle.records.specs.Refusals.{is_complex, is_khmer, refusal, refuse, ◌⊳◌, over, too_long, uneven, bad_scalar, outside, part_codes, record_classes, record_marks, bad_run, barred, judge_part, judge_record, judge_sign, judge_sign_at, judge_parts, judge_records, judge_signs, judge_lengths, verdict, judge_marked, marked_verdict, word_verdict}
 use Rattle.records.specs.Written.{roomy}
 use Rattle.classes.specs.WordBreak as WordBreak
@@ -26,13 +26,13 @@ use Rattle.records.proofs.Tables.{fits, in_order, broken_fits, first_line, first
 
 -- # Verdicts one after the other
 
-pub alone : (v : Verdict) → v ⊳ Accepted ≡ v
-alone Accepted = refl
-alone (Refused r) = refl
+pub alone : (v : Verdict) → v ⊳ (Ok tt) ≡ v
+alone (Ok _) = refl
+alone (Err r) = refl
 
 then_assoc : (a b c : Verdict) → (a ⊳ b) ⊳ c ≡ a ⊳ b ⊳ c
-then_assoc Accepted b c = refl
-then_assoc (Refused r) b c = refl
+then_assoc (Ok _) b c = refl
+then_assoc (Err r) b c = refl
 
 pub over_same : (f g : ℕ → Verdict) → ((i : ℕ) → f i ≡ g i) → (n i : ℕ) → over f i n ≡ over g i n
 unfolding over
@@ -71,7 +71,7 @@ sign_line_lem : (parser : Parser) (t : Text) → refuse (sign_line parser t).bro
 unfolding judge_signs judge_sign
 sign_line_lem parser t = go (is_khmer parser)
   where
-    go : (b : Bool) → refuse (b && some_from (bad_sign_at t) 0 (length t.records.scalars)) 7 Neither 0 ≡ cond b (over (judge_sign_at t) 0 (length t.records.scalars)) Accepted
+    go : (b : Bool) → refuse (b && some_from (bad_sign_at t) 0 (length t.records.scalars)) 7 Neither 0 ≡ cond b (over (judge_sign_at t) 0 (length t.records.scalars)) (Ok tt)
     go true = sym (over_some (bad_sign_at t) (length t.records.scalars) 0)
     go false = refl
 
@@ -127,8 +127,8 @@ module _ (numbers : List ℕ) (parser : Parser) (t : Text) (more : List Line) (o
   offence_seven Record index (i, b) = absurd (false≢true b)
 
   judges_asks : (v : Verdict) → Judges (Offends (table_of parser t more)) v → Asks parser v
-  judges_asks Accepted j = record { six = λ e. absurd (omega arith); seven = λ e. absurd (omega arith) }
-  judges_asks (Refused r) j =
+  judges_asks (Ok _) j = record { six = λ e. absurd (omega arith); seven = λ e. absurd (omega arith) }
+  judges_asks (Err r) j =
       let offends : ℕ → Type 0 = λ n. Offends (table_of parser t more) (refusal n r.side r.index) in
       record {
         six = λ e. is_complex_lem parser (offence_six r.side r.index (subst offends e j.0));

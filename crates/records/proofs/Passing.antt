@@ -12,15 +12,14 @@ use lib.Dec.{eqb, ltb}
 use borrow.Author.Tests.{ltb-true, ltb-false}
 use lib.Bits.{bit_or, or_add_and, and_le_l, and_le_r}
 use lib.ListN.{length, get_or-eq_default}
-use denote.Ref.{Bor}
 use Rattle.classes.specs.Scalar.{CGJ}
-use Rattle.records.specs.Text.{Text, cell, column, text_in}
+use Rattle.records.specs.Text.{Text, cell}
 use Rattle.records.specs.declared.Parser.{Parser}
-use Rattle.records.specs.declared.columns.Six.{Six}
+use Rattle.records.specs.declared.sweep.Six.{Six}
 use Rattle.records.specs.declared.Parser.TheVariants.{Simple, Myanmar, Complex, Khmer}
-use Rattle.records.specs.declared.Verdict.{Verdict}
+use Rattle.records.specs.Verdict.{Verdict}
 use Rattle.records.specs.Refusals.{bad_scalar, barred, judge_signs}
-use Rattle.records.specs.Sweep.{CleanScalar, CleanScalars, EndsBy, Inside, zeros, six_at, SixBelow, Below, Passes, each_verdict}
+use Rattle.records.specs.Sweep.{CleanScalar, CleanScalars, EndsBy, Inside, six_at, Below, Passes, each_verdict}
 use Rattle.records.proofs.Accepted.{parts_pass, rows_pass}
 
 pub not_so : {A : Type 0} → false ≡ true → A
@@ -53,20 +52,12 @@ unfolding bad_scalar
 clean_zero = (refl, refl)
 
 module _ (xs : List ℕ) (i : ℕ) where
-  pub most_more : (m n : ℕ) → ((k : ℕ) → k < i → cell xs k ≤ m) → m ≤ n → cell xs i ≤ n → (k : ℕ) → k < i + 1 → cell xs k ≤ n
-  most_more m n f l h = each_more (λ k. cell xs k ≤ n) i (λ k d. let z : cell xs k ≤ m = f k d in omega arith) h
-
   pub clean_all : (p : ℕ) → (p ≡ 0 → (k : ℕ) → k < i → CleanScalar (cell xs k)) → length xs ≤ i → p ≡ 0 → CleanScalars xs
   clean_all p f l e = each_all (λ k. CleanScalar (cell xs k)) i (f e) (λ k d. let z : cell xs k ≡ 0 = past xs k (omega arith) in subst CleanScalar (sym z) clean_zero)
 
 module _ (xs ys : List ℕ) (i : ℕ) where
   pub end_more : (m n e : ℕ) → ((k : ℕ) → k < i → cell xs k + cell ys k ≤ m) → m ≤ n → e ≤ n → e ≡ cell xs i + cell ys i → (k : ℕ) → k < i + 1 → cell xs k + cell ys k ≤ n
   end_more m n e f l h q = each_more (λ k. cell xs k + cell ys k ≤ n) i (λ k d. let z : cell xs k + cell ys k ≤ m = f k d in omega arith) (omega arith)
-
-  pub end_all : (m parts : ℕ) → ((k : ℕ) → k < i → cell xs k + cell ys k ≤ m) → length xs ≤ i → length ys ≡ length xs → m ≤ parts → EndsBy xs ys parts
-  end_all m parts f l e h =
-      each_all (λ k. cell xs k + cell ys k ≤ parts) i (λ k d. let z : cell xs k + cell ys k ≤ m = f k d in omega arith)
-      (λ k d. let y : cell xs k ≡ 0 = past xs k (omega arith) in let z : cell ys k ≡ 0 = past ys k (omega arith) in omega arith)
 
 -- numbers joined: 0 where both are
 pub none_joined : (p o q : ℕ) → q ≡ bit_or p o → q ≡ 0 → (p ≡ 0) × (o ≡ 0)
@@ -77,20 +68,6 @@ module _ (limits : Six) (a b c d e f : List ℕ) (i : ℕ) where
   abbrev pub SixSo : ℕ → Type 0
   SixSo odd = odd ≡ 0 → (k : ℕ) → k < i → Inside (six_at a b c d e f k) limits
 
-  pub six_more : (odd q : ℕ) → SixSo odd → (q ≡ 0 → (odd ≡ 0) × Inside (six_at a b c d e f i) limits) → q ≡ 0 → (k : ℕ) → k < i + 1 → Inside (six_at a b c d e f k) limits
-  six_more odd q s g h = each_more (λ k. Inside (six_at a b c d e f k) limits) i (s (g h).0) (g h).1
-
-  pub six_all : (odd : ℕ) → Inside zeros limits → length b ≡ length a → length c ≡ length a → length d ≡ length a → length e ≡ length a → length f ≡ length a → SixSo odd → length a ≤ i → odd ≡ 0 → SixBelow limits a b c d e f
-  six_all odd z lb lc ld le lf p h o =
-      each_all (λ k. Inside (six_at a b c d e f k) limits) i (p o) (λ k g. rw (
-        past a k (omega arith),
-        past b k (omega arith),
-        past c k (omega arith),
-        past d k (omega arith),
-        past e k (omega arith),
-        past f k (omega arith),
-      ) z)
-
 -- no parser bars another scalar than U+034F
 spared : (parser : Parser) (x class : ℕ) → eqb x CGJ ≡ false → barred parser x class ≡ false
 unfolding barred
@@ -99,9 +76,8 @@ spared Myanmar x class e = refl
 spared Complex x class e = rw e
 spared Khmer x class e = rw e
 
-pub columns_pass : (wides bytes : List (Bor (List ℕ))) (firsts : List ℕ) → Below bytes → CleanScalars (column wides 0) → CleanScalars (column wides 1) → EndsBy firsts (column bytes 11) (length (column wides 1)) → Passes (text_in wides bytes firsts)
-unfolding text_in
-columns_pass wides bytes firsts below s p e =
+pub columns_pass : (t : Text) → Below t → CleanScalars t.records.scalars → CleanScalars t.parts.pscalars → EndsBy t.records.firsts t.records.counts (length t.parts.pscalars) → Passes t
+columns_pass t below s p e =
     record {
       parts = λ parser. parts_pass parser _ (λ i h. record {
         scalar = (p i).0;
@@ -123,7 +99,7 @@ columns_pass wides bytes firsts below s p e =
         pictograph = (below.marks i).3;
         selector = (below.marks i).4;
         decompose = (below.marks i).5;
-        count = let z : cell (column bytes 11) i < 4 = (below.classes i).5 in omega arith;
+        count = let z : cell t.records.counts i < 4 = (below.classes i).5 in omega arith;
         run = e i;
         free = spared parser _ _ (s i).1;
       });

@@ -1,5 +1,6 @@
 -- A verdict by a table of refusals: what the lines give one after the other is the first offence in testing order. One law for every
 -- call that refuses, `by_table`. Assumes nothing.
+use Rattle.std.specs.Prelude.{Ok, Err}
 use Prim.Native.Nat.{ℕ, zero, suc, ◌+◌, ◌<◌, ◌≤◌}
 use mathlib.Core.Path.{◌≡◌, refl, sym, ◌∙◌, ap, subst}
 use mathlib.Core.Bool.{Bool, true, false, cond, ◌&&◌, ◌||◌, and-false, or-true, or-false, or_assoc, false≢true}
@@ -14,8 +15,7 @@ use Rattle.basics.specs.Sets.{member}
 use Rattle.records.specs.declared.Side.{Side}
 use Rattle.records.specs.declared.Side.TheVariants.{Record, Part, Neither}
 use Rattle.records.specs.declared.Refusal.{Refusal}
-use Rattle.records.specs.declared.Verdict.{Verdict}
-use Rattle.records.specs.declared.Verdict.TheVariants.{Accepted, Refused}
+use Rattle.records.specs.Verdict.{Verdict}
 use Rattle.records.specs.Refusals.{refusal, refuse, ◌⊳◌, over}
 use Rattle.records.specs.Offences.{Line, breaks, Table, Offends, rank, stage_at, stage, Earlier, Judges, side_numbers, Carries, ByTable}
 
@@ -144,17 +144,17 @@ Either A B r = A r ⊎ B r
 
 module _ (A B : Offences) where
   same_judges : (v : Verdict) → ((r : Refusal) → A r → B r) → ((r : Refusal) → B r → A r) → Judges A v → Judges B v
-  same_judges Accepted f g j = λ r o. j r (g r o)
-  same_judges (Refused r) f g j = (f r j.0, λ q e o. j.1 q e (g q o))
+  same_judges (Ok _) f g j = λ r o. j r (g r o)
+  same_judges (Err r) f g j = (f r j.0, λ q e o. j.1 q e (g q o))
 
   -- no offence of the later comes earlier
   abbrev Apart : Type 0
   Apart = (r q : Refusal) → A r → B q → Earlier q r → ⊥
 
   then_judges : (a b : Verdict) → Apart → Judges A a → Judges B b → Judges (Either A B) (a ⊳ b)
-  then_judges Accepted Accepted apart p q = λ r o. ⊎_elim (λ x. p r x) (λ y. q r y) o
-  then_judges Accepted (Refused r) apart p q = (inr q.0, λ s e o. ⊎_elim (λ x. p s x) (λ y. q.1 s e y) o)
-  then_judges (Refused r) b apart p q = (inl p.0, λ s e o. ⊎_elim (λ x. p.1 s e x) (λ y. apart r s p.0 y e) o)
+  then_judges (Ok _) (Ok _) apart p q = λ r o. ⊎_elim (λ x. p r x) (λ y. q r y) o
+  then_judges (Ok _) (Err r) apart p q = (inr q.0, λ s e o. ⊎_elim (λ x. p s x) (λ y. q.1 s e y) o)
+  then_judges (Err r) b apart p q = (inl p.0, λ s e o. ⊎_elim (λ x. p.1 s e x) (λ y. apart r s p.0 y e) o)
 
   by_stage : (k : ℕ) → ((r : Refusal) → A r → stage r ≤ k) → ((r : Refusal) → B r → k < stage r) → Apart
   by_stage k f g r q x y (inl l) = omega (arith, f r x, g q y)
@@ -163,7 +163,7 @@ module _ (A B : Offences) where
 -- # Lines about one thing
 
 abbrev pub first_line : List Line → Side → ℕ → Verdict
-first_line [] side index = Accepted
+first_line [] side index = Ok tt
 first_line (l ∷ ls) side index = refuse l.broken l.number side index ⊳ first_line ls side index
 
 abbrev Fault : List Line → Side → ℕ → Offences
@@ -265,10 +265,10 @@ no_earlier r q f g =
     same_refusal r.number q.number r.side q.side r.index q.index n e i
 
 judges_unique : (offends : Refusal → Type 0) (v w : Verdict) → Judges offends v → Judges offends w → v ≡ w
-judges_unique offends Accepted Accepted p q = refl
-judges_unique offends Accepted (Refused r) p q = absurd (p r q.0)
-judges_unique offends (Refused r) Accepted p q = absurd (q r p.0)
-judges_unique offends (Refused r) (Refused s) p q = ap Refused (no_earlier r s (λ e. q.1 r e p.0) (λ e. p.1 s e q.0))
+judges_unique offends (Ok _) (Ok _) p q = refl
+judges_unique offends (Ok _) (Err r) p q = absurd (p r q.0)
+judges_unique offends (Err r) (Ok _) p q = absurd (q r p.0)
+judges_unique offends (Err r) (Err s) p q = ap Err (no_earlier r s (λ e. q.1 r e p.0) (λ e. p.1 s e q.0))
 
 -- # A table
 
@@ -368,8 +368,8 @@ module _ (numbers : List ℕ) (t : Table) (ordered : Ordered numbers t) where
   offence_listed number Record index (h, b) = told (broken_fits numbers Record 5 9 (t.of_record index) number (ordered.records index) b)
 
   judges_carries : (v : Verdict) → Judges (Offends t) v → Carries numbers t v
-  judges_carries Accepted j = tt
-  judges_carries (Refused r) j =
+  judges_carries (Ok _) j = tt
+  judges_carries (Err r) j =
       let l : _ = offence_listed r.number r.side r.index j.0 in
       (l.0, l.1, j.0.0)
 
@@ -385,7 +385,7 @@ module _ (numbers : List ℕ) (t : Table) (ordered : Ordered numbers t) where
       }
 
 -- A call that can give neither 10 nor 15: of one side and index the smallest number is told, whatever it is.
-pub lower_number : (numbers : List ℕ) (t : Table) (v : Verdict) → member numbers 10 ≡ false → member numbers 15 ≡ false → ByTable numbers t v → (r : Refusal) → v ≡ Refused r → (number : ℕ) → number < r.number → Offends t (refusal number r.side r.index) → ⊥
+pub lower_number : (numbers : List ℕ) (t : Table) (v : Verdict) → member numbers 10 ≡ false → member numbers 15 ≡ false → ByTable numbers t v → (r : Refusal) → v ≡ Err r → (number : ℕ) → number < r.number → Offends t (refusal number r.side r.index) → ⊥
 lower_number numbers t v ten fifteen told r e number =
     told.lower r e
     (by_test (member (10 ∷ 15 ∷ []) r.number)

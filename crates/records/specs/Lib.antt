@@ -5,3 +5,4 @@ pub mod Offences
 pub mod Sound
 pub mod Text
 pub mod Written
+pub mod Verdict

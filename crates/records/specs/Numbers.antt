@@ -1,12 +1,11 @@
 -- "An enum's cases have their numbers from this document by a definition that the contracts use" (SCOPE 10): the check's answers, and
 -- the parser that it is asked for (4.4).
-use Rattle.std.specs.Prelude.{ℕ, List, [], ◌∷◌}
+use Rattle.std.specs.Prelude.{ℕ, List, [], ◌∷◌, Ok, Err}
 use Rattle.records.specs.declared.Side.{Side}
 use Rattle.records.specs.declared.Side.TheVariants.{Record, Part, Neither}
 use Rattle.records.specs.declared.Parser.{Parser}
 use Rattle.records.specs.declared.Parser.TheVariants.{Simple, Myanmar, Complex, Khmer}
-use Rattle.records.specs.declared.Verdict.{Verdict}
-use Rattle.records.specs.declared.Verdict.TheVariants.{Accepted, Refused}
+use Rattle.records.specs.Verdict.{Verdict}
 
 -- Khmer is complex with the script Khmer
 abbrev pub parser_code : Parser → ℕ
@@ -23,10 +22,10 @@ side_code Part = 2
 
 -- the refusal's number in the table, and 0 where there is none
 abbrev pub number_of : Verdict → ℕ
-number_of Accepted = 0
-number_of (Refused r) = r.number
+number_of (Ok _) = 0
+number_of (Err r) = r.number
 
 -- with its values: refusal, side, index
 abbrev pub numbers_of : Verdict → List ℕ
-numbers_of Accepted = 0 ∷ 0 ∷ 0 ∷ []
-numbers_of (Refused r) = r.number ∷ side_code r.side ∷ r.index ∷ []
+numbers_of (Ok _) = 0 ∷ 0 ∷ 0 ∷ []
+numbers_of (Err r) = r.number ∷ side_code r.side ∷ r.index ∷ []

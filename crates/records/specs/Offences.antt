@@ -1,7 +1,7 @@
 -- The table of refusals (SCOPE 5.1) as a table: its lines about the whole, about each part and about each record, which of them are broken,
 -- and the order in which they are looked for. `verdict` of Refusals says how the check goes; `ByTable` says what it comes to, of the
 -- check and of every other call that refuses.
-use Rattle.std.specs.Prelude.{ℕ, zero, suc, ◌+◌, ◌<◌, ◌≡◌, Bool, true, false, cond, ◌&&◌, ◌||◌, List, [], ◌∷◌, ◌++◌, ◌⊎◌, eqb, ltb, length}
+use Rattle.std.specs.Prelude.{ℕ, zero, suc, ◌+◌, ◌<◌, ◌≡◌, Bool, true, false, cond, ◌&&◌, ◌||◌, List, [], ◌∷◌, ◌++◌, ◌⊎◌, eqb, ltb, length, Ok, Err}
 use Rattle.basics.specs.Sets.{member}
 use Rattle.records.specs.Text.{Text, cell, row_of, part_of, record_lengths, part_lengths}
 use Rattle.records.specs.Refusals.{refusal, is_khmer, too_long, uneven, bad_scalar, outside, part_codes, record_classes, record_marks, bad_run, barred, bad_sign, coded, mark}
@@ -13,8 +13,7 @@ use Rattle.records.specs.declared.Side.TheVariants.{Record, Part, Neither}
 use Rattle.records.specs.declared.Parser.{Parser}
 use Rattle.records.specs.declared.Parser.TheVariants.{Complex, Khmer}
 use Rattle.records.specs.declared.Refusal.{Refusal}
-use Rattle.records.specs.declared.Verdict.{Verdict}
-use Rattle.records.specs.declared.Verdict.TheVariants.{Accepted, Refused}
+use Rattle.records.specs.Verdict.{Verdict}
 use Rattle.classes.specs.WordBreak as WordBreak
 
 -- # Tables
@@ -87,8 +86,8 @@ Earlier r q =
 
 -- no offence, or the first one: this is one, and none comes earlier
 abbrev pub Judges : (Refusal → Type 0) → Verdict → Type 0
-Judges offends Accepted = (r : Refusal) → offends r → ⊥
-Judges offends (Refused r) = offends r × ((q : Refusal) → Earlier q r → offends q → ⊥)
+Judges offends (Ok _) = (r : Refusal) → offends r → ⊥
+Judges offends (Err r) = offends r × ((q : Refusal) → Earlier q r → offends q → ⊥)
 
 -- the numbers that go with a side: 5 is about records alone
 abbrev pub side_numbers : Side → List ℕ
@@ -98,8 +97,8 @@ side_numbers Record = 3 ∷ 4 ∷ 5 ∷ 6 ∷ []
 
 -- a refusal has one of the call's numbers, which goes with its side, and its index is of that side
 abbrev pub Carries : List ℕ → Table → Verdict → Type 0
-Carries numbers t Accepted = Unit
-Carries numbers t (Refused r) =
+Carries numbers t (Ok _) = Unit
+Carries numbers t (Err r) =
     (member numbers r.number ≡ true) × (member (side_numbers r.side) r.number ≡ true) × Within t r.side r.index
 
 -- all of it, of a call that can give these numbers: where a line holds "and never otherwise" (SCOPE 5.1), so that no other verdict would
@@ -107,7 +106,7 @@ Carries numbers t (Refused r) =
 pub record ByTable (numbers : List ℕ) (t : Table) (v : Verdict) : Type 0 where
   pub first : Judges (Offends t) v
   pub only : (w : Verdict) → Judges (Offends t) w → w ≡ v
-  pub lower : (r : Refusal) → v ≡ Refused r → (member (10 ∷ 15 ∷ []) r.number ≡ false) → (number : ℕ) → number < r.number → Offends t (refusal number r.side r.index) → ⊥
+  pub lower : (r : Refusal) → v ≡ Err r → (member (10 ∷ 15 ∷ []) r.number ≡ false) → (number : ℕ) → number < r.number → Offends t (refusal number r.side r.index) → ⊥
   pub carries : Carries numbers t v
 
 -- 6 is of complex, Khmer or not, and 7 of Khmer

@@ -1,17 +1,15 @@
 -- What only private contracts need. What the check by columns looks for: enough for no refusal but 7, and not less than the table asks.
-use Rattle.std.specs.Prelude.{ℕ, ◌+◌, ◌<◌, ◌≤◌, ◌≡◌, false, List, eqb, length}
-use Rattle.std.specs.Borrow.{Bor}
+use Rattle.std.specs.Prelude.{ℕ, ◌+◌, ◌<◌, ◌≤◌, ◌≡◌, false, List, eqb, length, Ok}
 use Rattle.classes.specs.Scalar.{CGJ}
 use Rattle.classes.specs.ClusterBreak as ClusterBreak
 use Rattle.classes.specs.UseClass as UseClass
 use Rattle.classes.specs.MyanmarClass as MyanmarClass
 use Rattle.classes.specs.WordBreak as WordBreak
 use Rattle.classes.specs.Category as Category
-use Rattle.records.specs.Text.{Text, cell, column}
+use Rattle.records.specs.Text.{Text, cell}
 use Rattle.records.specs.declared.Parser.{Parser}
-use Rattle.records.specs.declared.columns.Six.{Six}
-use Rattle.records.specs.declared.Verdict.{Verdict}
-use Rattle.records.specs.declared.Verdict.TheVariants.{Accepted}
+use Rattle.records.specs.declared.sweep.Six.{Six}
+use Rattle.records.specs.Verdict.{Verdict}
 use Rattle.records.specs.Refusals.{◌⊳◌, bad_scalar, judge_parts, judge_records, judge_signs}
 
 abbrev pub CleanScalar : ℕ → Type 0
@@ -48,15 +46,15 @@ abbrev pub part_limits : Six
 part_limits =
     record { a = ClusterBreak.len; b = UseClass.len; c = Category.len; d = ClusterBreak.len; e = UseClass.len; f = Category.len }
 
--- the columns of bytes
-pub record Below (bytes : List (Bor (List ℕ))) : Type 0 where
-  pub classes : SixBelow class_limits (column bytes 0) (column bytes 1) (column bytes 2) (column bytes 3) (column bytes 4) (column bytes 11)
-  pub marks : SixBelow mark_limits (column bytes 5) (column bytes 6) (column bytes 7) (column bytes 8) (column bytes 9) (column bytes 10)
-  pub parts : SixBelow part_limits (column bytes 12) (column bytes 13) (column bytes 14) (column bytes 12) (column bytes 13) (column bytes 14)
+-- the columns of classes, marks and parts
+pub record Below (t : Text) : Type 0 where
+  pub classes : SixBelow class_limits t.records.breaks t.records.uses t.records.myanmars t.records.categories t.records.words t.records.counts
+  pub marks : SixBelow mark_limits t.records.semojis t.records.memojis t.records.cemojis t.records.pictographs t.records.selectors t.records.decomposes
+  pub parts : SixBelow part_limits t.parts.pbreaks t.parts.puses t.parts.pcategories t.parts.pbreaks t.parts.puses t.parts.pcategories
 
 pub record Passes (t : Text) : Type 0 where
-  pub parts : (parser : Parser) → judge_parts parser t.parts ≡ Accepted
-  pub rows : (parser : Parser) → judge_records parser t.records (length t.parts.pscalars) ≡ Accepted
+  pub parts : (parser : Parser) → judge_parts parser t.parts ≡ Ok tt
+  pub rows : (parser : Parser) → judge_records parser t.records (length t.parts.pscalars) ≡ Ok tt
 
 -- the verdict's steps after the lengths
 abbrev pub each_verdict : Parser → Text → Verdict

@@ -1,7 +1,7 @@
 -- The lent text: eighteen columns, "fourteen with a cell for each record, one record a character, and four with a cell for each part"
 -- (SCOPE 2.1).
 use Rattle.std.specs.Prelude.{ℕ, List, [], ◌∷◌, length, get_or}
-use Rattle.std.specs.Borrow.{Bor}
+use Rattle.records.specs.declared.Columns.{Columns}
 use Rattle.records.specs.declared.Row.{Row}
 use Rattle.records.specs.declared.PartRow.{PartRow}
 
@@ -55,20 +55,11 @@ text_of scalars breaks uses myanmars categories words semojis memojis cemojis pi
       parts = record { pscalars = pscalars; pbreaks = pbreaks; puses = puses; pcategories = pcategories };
     }
 
--- column k of the lent ones, and the empty one past the last
-abbrev pub column : List (Bor (List ℕ)) → ℕ → List ℕ
-column columns k = (get_or columns k (record { ref_ptr = (0, 0); now = [] })).now
-
--- the text of the packed columns: two of scalars, fifteen of bytes, and the first parts
-unfoldable pub text_in : List (Bor (List ℕ)) → List (Bor (List ℕ)) → List ℕ → Text
-text_in wides bytes firsts =
-    text_of (column wides 0) (column bytes 0) (column bytes 1) (column bytes 2) (column bytes 3) (column bytes 4) (column bytes 5)
-    (column bytes 6) (column bytes 7) (column bytes 8) (column bytes 9) (column bytes 10) firsts (column bytes 11) (column wides 1)
-    (column bytes 12) (column bytes 13) (column bytes 14)
-
--- the same of the references, as a contract has them
-abbrev pub lent : Bor (List (Bor (List ℕ))) → Bor (List (Bor (List ℕ))) → Bor (List ℕ) → Text
-lent wides bytes firsts = text_in wides.now bytes.now firsts.now
+-- the text that the columns of a call lend
+abbrev pub lent : Columns → Text
+lent c =
+    text_of c.scalars.now c.breaks.now c.uses.now c.myanmars.now c.categories.now c.words.now c.semojis.now c.memojis.now c.cemojis.now
+    c.pictographs.now c.selectors.now c.decomposes.now c.firsts.now c.counts.now c.pscalars.now c.pbreaks.now c.puses.now c.pcategories.now
 
 -- what stands at an index of a column
 abbrev pub cell : List ℕ → ℕ → ℕ

@@ -3,37 +3,37 @@
 #![tactic(auto)]
 
 pub mod cells;
-mod columns;
 mod judge;
 mod sets;
+mod sweep;
 mod threes;
 
 ghost use Rattle.std.specs.Prelude.{◌≡◌};
-ghost use Rattle.records.specs.Text.{text_of, lent};
+ghost use Rattle.records.specs.Text.{lent};
 ghost use Rattle.records.specs.Refusals.{verdict, marked_verdict, word_verdict};
 ghost use Rattle.records.specs.Numbers.{side_code, parser_code};
 
 use classes::word_break;
-use columns::{is_clean, passes};
 use judge::judge_lengths;
-pub use judge::{is_bad_marked, is_khmer, is_outside, is_sign, judge_room, refused};
+pub use judge::{bad_scalar, is_bad_marked, is_khmer, is_outside, is_sign, judge_room, refused};
 use sets::{judge_all_marked, judge_each, judge_shape, judge_signs};
+use sweep::{is_clean, passes};
 pub use threes::{is_bad_three, judge_codes, judge_columns};
 
 // What a refusal's index counts.
-#[derive(Clone, Copy)]
+#[derive(Clone, Copy, Debug, PartialEq, Eq)]
 pub enum Side {
     Record,
     Part,
     Neither,
 }
 
-impl Side {
-    // The number that a call tells for the side.
-    pub fn code(self) -> u8
-        ensures { result ≡ side_code self }
-    {
-        match self {
+// The number that a call tells for the side.
+impl From<Side> for u8 {
+    ghost from_gives = { λ side code. code ≡ side_code side };
+
+    fn from(side: Side) -> u8 {
+        match side {
             Side::Neither => 0,
             Side::Record => 1,
             Side::Part => 2,
@@ -42,7 +42,7 @@ impl Side {
 }
 
 // Whom the text is checked for: complex with and without Khmer differ in refusal 7.
-#[derive(Clone, Copy)]
+#[derive(Clone, Copy, Debug, PartialEq, Eq)]
 pub enum Parser {
     Simple,
     Myanmar,
@@ -50,12 +50,12 @@ pub enum Parser {
     Khmer,
 }
 
-impl Parser {
-    // The number by which a caller asks for the parser.
-    pub fn code(self) -> u8
-        ensures { result ≡ parser_code self }
-    {
-        match self {
+// The number by which a caller asks for the parser.
+impl From<Parser> for u8 {
+    ghost from_gives = { λ parser code. code ≡ parser_code parser };
+
+    fn from(parser: Parser) -> u8 {
+        match parser {
             Parser::Simple => 0,
             Parser::Myanmar => 1,
             Parser::Complex => 2,
@@ -64,22 +64,41 @@ impl Parser {
     }
 }
 
-// A refusal: its number in the table of SCOPE 5.1, and what it is about; where that is neither a record nor a part, the index is 0.
-#[derive(Clone, Copy)]
+// A refusal: its number in the table of SCOPE 5.1, and what it is about; where that is neither a record nor a part, the index is 0. It is
+// the error of every call that refuses. The number stays one: C is told it, and the theorems over the table (`ByTable`, `lower_number`) speak
+// of all numbers and of their order.
+#[derive(Clone, Copy, Debug, PartialEq, Eq)]
 pub struct Refusal {
     pub number: u8,
     pub side: Side,
     pub index: usize,
 }
 
-#[derive(Clone, Copy)]
-pub enum Verdict {
-    Accepted,
-    Refused(Refusal),
+// The lent text (SCOPE 2.1): fourteen columns with a cell for each record, and four with a cell for each part.
+#[derive(Clone, Copy, Debug, PartialEq, Eq)]
+pub struct Columns<'a> {
+    pub scalars: &'a [u32],
+    pub breaks: &'a [u8],
+    pub uses: &'a [u8],
+    pub myanmars: &'a [u8],
+    pub categories: &'a [u8],
+    pub words: &'a [u8],
+    pub semojis: &'a [u8],
+    pub memojis: &'a [u8],
+    pub cemojis: &'a [u8],
+    pub pictographs: &'a [u8],
+    pub selectors: &'a [u8],
+    pub decomposes: &'a [u8],
+    pub firsts: &'a [u16],
+    pub counts: &'a [u8],
+    pub pscalars: &'a [u32],
+    pub pbreaks: &'a [u8],
+    pub puses: &'a [u8],
+    pub pcategories: &'a [u8],
 }
 
 // The cells of one record.
-#[derive(Clone, Copy)]
+#[derive(Clone, Copy, Debug, PartialEq, Eq)]
 pub struct Row {
     pub scalar: u32,
     pub breaks: u8,
@@ -98,7 +117,7 @@ pub struct Row {
 }
 
 // The cells of one part.
-#[derive(Clone, Copy)]
+#[derive(Clone, Copy, Debug, PartialEq, Eq)]
 pub struct PartRow {
     pub scalar: u32,
     pub breaks: u8,
@@ -109,93 +128,39 @@ pub struct PartRow {
 // The longest column that is accepted.
 pub const MOST: usize = 4096;
 
-// The verdict on a whole text, its columns packed: two of scalars (records, parts), fifteen of bytes, and the first parts.
-pub fn check_in<'s, 'a>(
-    parser: Parser,
-    wides: &'s [&'a [u32]; 2],
-    bytes: &'s [&'a [u8]; 15],
-    firsts: &'a [u16],
-) -> Verdict
-    ensures { result ≡ verdict parser (lent wides.entry bytes.entry firsts.entry) }
+// The verdict on a whole text.
+#[tactic(auto, using(crate::proofs::Passing::both_pass), unfolding(crate::specs::Refusals::verdict))]
+pub fn check(parser: Parser, columns: &Columns) -> Result<(), Refusal>
+    ensures { result ≡ verdict parser (lent columns.now) }
 {
-    let shape = judge_shape(wides, bytes, firsts);
-    let Verdict::Accepted = shape else {
-        return shape;
-    };
-    if passes(wides, bytes, firsts) {
-        return judge_signs(parser, wides, bytes, firsts);
+    judge_shape(columns)?;
+    if passes(columns) {
+        return judge_signs(parser, columns);
     }
-    judge_each(parser, wides, bytes, firsts)
+    judge_each(parser, columns)
 }
 
-// The same of the columns one by one.
-pub fn check<'a>(
-    parser: Parser,
-    scalars: &'a [u32],
-    breaks: &'a [u8],
-    uses: &'a [u8],
-    myanmars: &'a [u8],
-    categories: &'a [u8],
-    words: &'a [u8],
-    semojis: &'a [u8],
-    memojis: &'a [u8],
-    cemojis: &'a [u8],
-    pictographs: &'a [u8],
-    selectors: &'a [u8],
-    decomposes: &'a [u8],
-    firsts: &'a [u16],
-    counts: &'a [u8],
-    pscalars: &'a [u32],
-    pbreaks: &'a [u8],
-    puses: &'a [u8],
-    pcategories: &'a [u8],
-) -> Verdict
-    ensures { result ≡ verdict parser (text_of scalars.now breaks.now uses.now myanmars.now categories.now words.now semojis.now memojis.now cemojis.now pictographs.now selectors.now decomposes.now firsts.now counts.now pscalars.now pbreaks.now puses.now pcategories.now) }
-{
-    let wides = [scalars, pscalars];
-    let bytes = [
-        breaks,
-        uses,
-        myanmars,
-        categories,
-        words,
-        semojis,
-        memojis,
-        cemojis,
-        pictographs,
-        selectors,
-        decomposes,
-        counts,
-        pbreaks,
-        puses,
-        pcategories,
-    ];
-    check_in(parser, &wides, &bytes, firsts)
-}
-
-fn check_each(len: u8, classes: &[u8], marks: &[u8]) -> Verdict
+#[tactic(auto, unfolding(crate::specs::Refusals::marked_verdict))]
+fn check_each(len: u8, classes: &[u8], marks: &[u8]) -> Result<(), Refusal>
     ensures { result ≡ marked_verdict len classes.now marks.now }
 {
-    let shape = judge_lengths(&[classes.len(), marks.len()], &[]);
-    let Verdict::Accepted = shape else {
-        return shape;
-    };
+    judge_lengths(&[classes.len(), marks.len()], &[])?;
     judge_all_marked(len, classes, marks)
 }
 
 // The verdict on two columns, the classes of one list, of this length, and marks: both are looked through in one loop without a branch,
 // and only where something is found does the exact check name it.
-pub fn check_marked(len: u8, classes: &[u8], marks: &[u8]) -> Verdict
+pub fn check_marked(len: u8, classes: &[u8], marks: &[u8]) -> Result<(), Refusal>
     ensures { result ≡ marked_verdict len classes.now marks.now }
 {
     if is_clean(len, classes, marks) {
-        return Verdict::Accepted;
+        return Ok(());
     }
     check_each(len, classes, marks)
 }
 
 // The verdict on the two columns of a word run.
-pub fn check_words(words: &[u8], pictographs: &[u8]) -> Verdict
+pub fn check_words(words: &[u8], pictographs: &[u8]) -> Result<(), Refusal>
     ensures { result ≡ word_verdict words.now pictographs.now }
 {
     check_marked(word_break::LEN, words, pictographs)

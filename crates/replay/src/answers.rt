@@ -1,31 +1,16 @@
 // The answer to one line.
 use crate::breaks::lent;
 use crate::files::{Sizes, files};
-use crate::out::Buffer;
+use crate::out::Out;
 use crate::refusals::refusal;
 use crate::texts::{Ask, text};
-use crate::zeros::CELLS;
-use crate::{out, zeros};
-use cases::{Line, Machine};
-use records::Verdict;
-use records::cells::cell8;
+use crate::{CELLS, COLUMN};
+use cases::{Line, Machine, column8, span};
+use records::Refusal;
+use records::cells::first;
 use words::{WordState, WordStep};
 
-// The first n cells, one blank between.
-pub(crate) fn cells(to: &mut Buffer, at: usize, answers: &[u8; CELLS], n: usize) -> usize {
-    let mut end = at;
-    let mut i: usize = 0;
-    while i < n {
-        if 0 < i {
-            end = out::put(to, end, b' ');
-        }
-        end = out::decimal(to, end, cell8(answers, i) as u64);
-        i += 1;
-    }
-    end
-}
-
-fn run_by(machine: Machine, classes: &[u8], marks: &[u8], out: &mut [u8]) -> Verdict {
+fn run_by(machine: Machine, classes: &[u8], marks: &[u8], out: &mut [u8]) -> Result<(), Refusal> {
     match machine {
         Machine::Words => words::run(classes, marks, out),
         Machine::Back => uax29::graphemes::graphemes_back(classes, marks, out),
@@ -33,70 +18,55 @@ fn run_by(machine: Machine, classes: &[u8], marks: &[u8], out: &mut [u8]) -> Ver
     }
 }
 
-fn marked_run(
-    to: &mut Buffer,
-    at: usize,
-    line: &[u8],
-    machine: Machine,
-    size: u32,
-    records: usize,
-) -> usize {
-    let section = cases::span(line, b';', 2);
-    let mut classes = zeros::column8();
-    let mut marks = zeros::column8();
-    let mut answers = zeros::cells8();
-    let n = cases::column8(section, 0, records, &mut classes);
-    let m = cases::column8(section, 1, records, &mut marks);
-    let k = io::count(size as isize, &answers);
-    let verdict = run_by(machine, &classes[..n], &marks[..m], &mut answers[..k]);
-    match verdict {
-        Verdict::Accepted => cells(to, at, &answers, n),
-        Verdict::Refused(r) => refusal(to, at, r),
+// The cells, one blank between, or the refusal.
+fn marked_run(out: &mut Out, line: &[u8], machine: Machine, size: usize, records: usize) {
+    let section = span(line, b';', 2);
+    let mut classes = [0; COLUMN];
+    let mut marks = [0; COLUMN];
+    let mut answers = [0; CELLS];
+    let n = column8(section, 0, records, &mut classes);
+    let m = column8(section, 1, records, &mut marks);
+    let k = size.min(CELLS);
+    match run_by(machine, &classes[..n], &marks[..m], &mut answers[..k]) {
+        Ok(()) => out.decimals(first(&answers, n), b' '),
+        Err(r) => refusal(out, r),
     }
-}
-
-fn flag(b: bool) -> u8 {
-    if b { b'1' } else { b'0' }
 }
 
 // "first,prev,prevent,count"
-pub(crate) fn state(to: &mut Buffer, at: usize, s: WordState) -> usize {
-    let mut end = out::put(to, at, flag(s.first));
-    end = out::put(to, end, b',');
-    end = out::decimal(to, end, s.previous as u64);
-    end = out::put(to, end, b',');
-    end = out::put(to, end, flag(s.prevent));
-    end = out::put(to, end, b',');
-    out::decimal(to, end, s.count as u64)
+pub(crate) fn state(out: &mut Out, s: WordState) {
+    out.decimals(
+        &[
+            u64::from(s.first),
+            u64::from(s.previous),
+            u64::from(s.prevent),
+            u64::from(s.count),
+        ],
+        b',',
+    );
 }
 
-fn word_step(to: &mut Buffer, at: usize, step: WordStep) -> usize {
-    let verdict = step.verdict;
-    let after = step.state;
-    let mut end = at;
-    match verdict {
-        Verdict::Accepted => {
-            end = out::decimal(to, end, step.answer as u64);
-        }
-        Verdict::Refused(r) => {
-            end = refusal(to, end, r);
-        }
+// "ANSWER;first,prev,prevent,count", or the refusal and the state.
+fn word_step(out: &mut Out, step: WordStep) {
+    match step.verdict {
+        Ok(()) => out.decimal(u64::from(step.answer)),
+        Err(r) => refusal(out, r),
     }
-    end = out::put(to, end, b';');
-    state(to, end, after)
+    out.put(b';');
+    state(out, step.state);
 }
 
-pub(crate) fn not_of_layout(to: &mut Buffer, at: usize, number: u64) -> usize {
-    let mut end = out::text(to, at, b"? ");
-    end = out::decimal(to, end, number);
-    out::put(to, end, b'\n')
+pub(crate) fn not_of_layout(out: &mut Out, number: u64) {
+    out.text(b"? ");
+    out.decimal(number);
+    out.put(b'\n');
 }
 
 // The answer to a line with its number.
-pub(crate) fn answer(to: &mut Buffer, at: usize, line: &[u8], number: u64) -> usize {
+pub(crate) fn answer(out: &mut Out, line: &[u8], number: u64) {
     match cases::read(line) {
-        Line::Skipped => at,
-        Line::NotOfLayout => not_of_layout(to, at, number),
+        Line::Skipped => return,
+        Line::NotOfLayout => return not_of_layout(out, number),
         Line::Text {
             parser,
             mode,
@@ -111,50 +81,40 @@ pub(crate) fn answer(to: &mut Buffer, at: usize, line: &[u8], number: u64) -> us
                 full,
                 number: cells as usize,
             };
-            let end = text(to, at, line, ask, records as usize, parts as usize);
-            out::put(to, end, b'\n')
+            text(out, line, ask, records as usize, parts as usize);
         }
         Line::Marked {
             machine,
-            cells: size,
+            cells,
             records,
-        } => {
-            let end = marked_run(to, at, line, machine, size, records as usize);
-            out::put(to, end, b'\n')
-        }
+        } => marked_run(out, line, machine, cells as usize, records as usize),
         Line::Step {
-            state: s,
+            state,
             class,
             pictograph,
             next,
-        } => {
-            let end = word_step(to, at, s.step(class, pictograph, next));
-            out::put(to, end, b'\n')
-        }
+        } => word_step(out, state.step(class, pictograph, next)),
         Line::Lent {
             strength,
             own,
             task,
-        } => {
-            let end = lent(to, at, line, strength, own, task);
-            out::put(to, end, b'\n')
-        }
+        } => lent(out, line, strength, own, task),
         Line::Files {
             clusters,
             words,
             blocks,
-            cells: size,
+            cells,
             scalars,
         } => {
             let sizes = Sizes {
-                clusters,
-                words,
-                blocks,
-                scalars,
-                cells: size,
+                clusters: usize::from(clusters),
+                words: usize::from(words),
+                blocks: blocks as usize,
+                scalars: scalars as usize,
+                cells: cells as usize,
             };
-            let end = files(to, at, line, sizes);
-            out::put(to, end, b'\n')
+            files(out, line, sizes);
         }
     }
+    out.put(b'\n');
 }

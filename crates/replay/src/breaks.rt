@@ -1,72 +1,62 @@
 // The lines over a table: the line step, the step of `next` and its run.
-use crate::answers::{cells, state};
-use crate::out::Buffer;
+use crate::answers::state;
+use crate::out::Out;
 use crate::refusals::refusal;
-use crate::{out, zeros};
-use cases::{Table, Task, column8};
+use crate::{CELLS, COLUMN};
+use cases::{Task, column8, lay_table, span};
 use lines::pair_table::pair_table;
-use lines::{Boundary, BoundaryState, BoundaryStep, LineState, LineStep, Previous, Strength};
-use records::Verdict;
-use records::cells::first8;
+use lines::{Boundary, BoundaryState, BoundaryStep, LineState, LineStep, Strength};
+use records::Refusal;
+use records::cells::first;
 
-fn answered(to: &mut Buffer, at: usize, verdict: Verdict, answer: Boundary) -> usize {
+fn answered(out: &mut Out, verdict: Result<(), Refusal>, answer: Boundary) {
     match verdict {
-        Verdict::Accepted => out::decimal(to, at, answer.code() as u64),
-        Verdict::Refused(r) => refusal(to, at, r),
+        Ok(()) => out.decimal(u64::from(u8::from(answer))),
+        Err(r) => refusal(out, r),
     }
 }
 
 // ";row,prev"
-fn line_state(to: &mut Buffer, at: usize, s: LineState) -> usize {
-    let previous = s.previous;
-    let mut end = out::put(to, at, b';');
-    end = out::decimal(to, end, s.row as u64);
-    end = out::put(to, end, b',');
-    match previous {
-        Previous::Class(class) => out::decimal(to, end, class as u64),
-        Previous::Nothing => out::put(to, end, b'-'),
+fn line_state(out: &mut Out, s: LineState) {
+    out.put(b';');
+    out.decimal(u64::from(s.row));
+    out.put(b',');
+    match s.previous {
+        Some(class) => out.decimal(u64::from(class)),
+        None => out.put(b'-'),
     }
 }
 
 // "ANSWER;row,prev"
-fn line_step(to: &mut Buffer, at: usize, step: LineStep) -> usize {
-    let verdict = step.verdict;
-    let answer = step.answer;
-    let after = step.state;
-    let end = answered(to, at, verdict, answer);
-    line_state(to, end, after)
+fn line_step(out: &mut Out, step: LineStep) {
+    answered(out, step.verdict, step.answer);
+    line_state(out, step.state);
 }
 
 // "ANSWER;row,prev;first,prev,prevent,count"
-fn boundary_step(to: &mut Buffer, at: usize, step: BoundaryStep) -> usize {
-    let verdict = step.verdict;
-    let answer = step.answer;
-    let after = step.state;
-    let line = after.line;
-    let word = after.word;
-    let mut end = answered(to, at, verdict, answer);
-    end = line_state(to, end, line);
-    end = out::put(to, end, b';');
-    state(to, end, word)
+fn boundary_step(out: &mut Out, step: BoundaryStep) {
+    answered(out, step.verdict, step.answer);
+    line_state(out, step.state.line);
+    out.put(b';');
+    state(out, step.state.word);
 }
 
 fn boundaries(
-    to: &mut Buffer,
-    at: usize,
+    out: &mut Out,
     section: &[u8],
     table: &[u8],
     strength: Strength,
-    size: u32,
+    size: usize,
     records: usize,
-) -> usize {
-    let mut lines = zeros::column8();
-    let mut words = zeros::column8();
-    let mut pictographs = zeros::column8();
-    let mut answers = zeros::cells8();
+) {
+    let mut lines = [0; COLUMN];
+    let mut words = [0; COLUMN];
+    let mut pictographs = [0; COLUMN];
+    let mut answers = [0; CELLS];
     let n = column8(section, 0, records, &mut lines);
     let m = column8(section, 1, records, &mut words);
     let p = column8(section, 2, records, &mut pictographs);
-    let k = io::count(size as isize, &answers);
+    let k = size.min(CELLS);
     let verdict = lines::run(
         table,
         strength,
@@ -76,67 +66,47 @@ fn boundaries(
         &mut answers[..k],
     );
     match verdict {
-        Verdict::Accepted => cells(to, at, &answers, n),
-        Verdict::Refused(r) => refusal(to, at, r),
+        Ok(()) => out.decimals(first(&answers, n), b' '),
+        Err(r) => refusal(out, r),
     }
 }
 
-fn over(
-    to: &mut Buffer,
-    at: usize,
-    line: &[u8],
-    table: &[u8],
-    strength: Strength,
-    task: Task,
-) -> usize {
+fn over(out: &mut Out, line: &[u8], table: &[u8], strength: Strength, task: Task) {
     match task {
-        Task::LineStep { state: s, class } => line_step(to, at, s.step(table, strength, class)),
+        Task::LineStep { state, class } => line_step(out, state.step(table, strength, class)),
         Task::BoundaryStep {
-            line_state: s,
-            word_state: w,
+            line_state,
+            word_state,
             line: class,
             word,
             pictograph,
             next,
         } => {
-            let state = BoundaryState { line: s, word: w };
+            let state = BoundaryState {
+                line: line_state,
+                word: word_state,
+            };
             boundary_step(
-                to,
-                at,
+                out,
                 state.next(table, strength, class, word, pictograph, next),
-            )
+            );
         }
-        Task::Boundaries {
-            cells: size,
-            records,
-        } => boundaries(
-            to,
-            at,
-            cases::span(line, b';', 4),
+        Task::Boundaries { cells, records } => boundaries(
+            out,
+            span(line, b';', 4),
             table,
             strength,
-            size,
+            cells as usize,
             records as usize,
         ),
     }
 }
 
-fn laid(table: &Table, n: usize) -> &[u8] {
-    first8(table, n)
-}
-
-pub(crate) fn lent(
-    to: &mut Buffer,
-    at: usize,
-    line: &[u8],
-    strength: Strength,
-    own: bool,
-    task: Task,
-) -> usize {
+pub(crate) fn lent(out: &mut Out, line: &[u8], strength: Strength, own: bool, task: Task) {
     if own {
-        return over(to, at, line, &pair_table(), strength, task);
+        return over(out, line, &pair_table(), strength, task);
     }
-    let mut table = zeros::table();
-    let n = cases::lay_table(cases::span(line, b';', 2), &mut table);
-    over(to, at, line, laid(&table, n), strength, task)
+    let mut table = [0; 11307];
+    let n = lay_table(span(line, b';', 2), &mut table);
+    over(out, line, first(&table, n), strength, task);
 }

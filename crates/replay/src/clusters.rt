@@ -1,33 +1,21 @@
 // What is printed of a call: "START>NEXT:chars:info".
-use crate::out;
-use crate::out::Buffer;
+use crate::out::Out;
 use parse::{Cluster, Emoji, Info, Pushed, Space};
 
 // "scalar.class.record.noted"
-fn character(to: &mut Buffer, at: usize, c: Pushed) -> usize {
-    let class = c.class;
-    let mut end = out::hex(to, at, c.scalar);
-    end = out::put(to, end, b'.');
-    end = out::decimal(to, end, class.code() as u64);
-    end = out::put(to, end, b'.');
-    end = out::decimal(to, end, c.index as u64);
-    end = out::put(to, end, b'.');
-    out::decimal(to, end, c.noted as u64)
+fn character(out: &mut Out, c: &Pushed) {
+    out.hex(c.scalar);
+    out.put(b'.');
+    out.decimals(&[u16::from(u8::from(c.class)), c.index, c.noted], b'.');
 }
 
-fn characters(to: &mut Buffer, at: usize, cluster: Cluster) -> usize {
-    let chars = cluster.chars;
-    let len = cluster.len;
-    let mut end = at;
-    for i in 0..32usize {
-        if i < len {
-            if 0 < i {
-                end = out::put(to, end, b',');
-            }
-            end = character(to, end, chars[i]);
+fn characters(out: &mut Out, cluster: &Cluster) {
+    for (i, c) in cluster.chars.iter().take(cluster.len).enumerate() {
+        if 0 < i {
+            out.put(b',');
         }
+        character(out, c);
     }
-    end
 }
 
 fn emoji(e: Emoji) -> u8 {
@@ -39,41 +27,26 @@ fn emoji(e: Emoji) -> u8 {
     }
 }
 
-fn space(to: &mut Buffer, at: usize, s: Space) -> usize {
+fn space(out: &mut Out, s: Space) {
     match s {
-        Space::None => out::put(to, at, b'-'),
-        Space::Newline => out::put(to, at, b'N'),
-        Space::From(x) => out::hex(to, at, x),
+        Space::None => out.put(b'-'),
+        Space::Newline => out.put(b'N'),
+        Space::From(x) => out.hex(x),
     }
 }
 
-fn mark(b: bool, letter: u8) -> u8 {
-    if b { letter } else { b'.' }
+fn known(out: &mut Out, info: &Info) {
+    out.put(emoji(info.emoji));
+    space(out, info.space);
+    out.put(if info.broken { b'B' } else { b'.' });
+    out.put(if info.normalise { b'Z' } else { b'.' });
 }
 
-fn known(to: &mut Buffer, at: usize, info: Info) -> usize {
-    let kind = info.emoji;
-    let of = info.space;
-    let mut end = out::put(to, at, emoji(kind));
-    end = space(to, end, of);
-    end = out::put(to, end, mark(info.broken, b'B'));
-    out::put(to, end, mark(info.normalise, b'Z'))
-}
-
-pub(crate) fn call(
-    to: &mut Buffer,
-    at: usize,
-    from: usize,
-    next: usize,
-    cluster: Cluster,
-) -> usize {
-    let info = cluster.info;
-    let mut end = out::put(to, at, b'|');
-    end = out::decimal(to, end, from as u64);
-    end = out::put(to, end, b'>');
-    end = out::decimal(to, end, next as u64);
-    end = out::put(to, end, b':');
-    end = characters(to, end, cluster);
-    end = out::put(to, end, b':');
-    known(to, end, info)
+pub(crate) fn call(out: &mut Out, from: usize, next: usize, cluster: &Cluster) {
+    out.put(b'|');
+    out.decimals(&[from as u64, next as u64], b'>');
+    out.put(b':');
+    characters(out, cluster);
+    out.put(b':');
+    known(out, &cluster.info);
 }

@@ -1,61 +1,69 @@
-// The answers on their way out: `at` bytes of a buffer, which is written when it is full.
+// The answers on their way out, in a buffer that is written when it is full.
+ghost use Rattle.std.specs.Prelude.{◌≡◌};
 
-// The descriptor of standard output.
-const STDOUT: i32 = 1;
+use console::write;
+use records::cells::first;
 
-pub type Buffer = [u8; 65536];
+const SIZE: usize = 65536;
 
-// One call for 64 KiB: a call for each byte would be slow.
-pub(crate) fn put(out: &mut Buffer, at: usize, byte: u8) -> usize {
-    if at < 65536 {
-        out[at] = byte;
-        return at + 1;
-    }
-    io::write_all(STDOUT, out);
-    out[0] = byte;
-    1
+#[derive(Drop)]
+pub(crate) struct Out {
+    bytes: [u8; SIZE],
+    len: usize,
 }
 
-fn write_first(bytes: &[u8], n: usize) {
-    if n <= bytes.len() {
-        io::write_all(STDOUT, &bytes[..n]);
-    }
-}
-
-pub(crate) fn flush(out: &Buffer, at: usize) {
-    write_first(out, at);
-}
-
-pub(crate) fn text(out: &mut Buffer, at: usize, bytes: &[u8]) -> usize {
-    let mut end = at;
-    let mut i: usize = 0;
-    while i < bytes.len() {
-        end = put(out, end, bytes[i]);
-        i += 1;
-    }
-    end
-}
-
-pub(crate) fn decimal(out: &mut Buffer, at: usize, n: u64) -> usize {
-    let mut digits = [0u8; 20];
-    let k = io::decimal(n, &mut digits);
-    text(out, at, &digits[..k])
-}
-
-fn digit(d: u32) -> u8 {
-    let small = (d % 16) as u8;
-    if small < 10 { 48 + small } else { 55 + small }
-}
-
-// Capital digits, "four or as many more as needed".
-pub(crate) fn hex(out: &mut Buffer, at: usize, x: u32) -> usize {
-    let mut end = at;
-    let mut unit: u32 = 0x10000000;
-    while 0 < unit {
-        if unit <= x || unit <= 0x1000 {
-            end = put(out, end, digit(x / unit));
+impl Out {
+    pub(crate) fn new() -> Out {
+        Out {
+            bytes: [0; SIZE],
+            len: 0,
         }
-        unit /= 16;
     }
-    end
+
+    pub(crate) fn flush(&mut self)
+        ensures { self.new.len ≡ 0 }
+    {
+        write(first(&self.bytes, self.len));
+        self.len = 0;
+    }
+
+    // One call for 64 KiB: a call for each byte would be slow.
+    pub(crate) fn put(&mut self, byte: u8) {
+        if SIZE <= self.len {
+            self.flush();
+        }
+        self.bytes[self.len] = byte;
+        self.len += 1;
+    }
+
+    pub(crate) fn text(&mut self, bytes: &[u8]) {
+        for &byte in bytes {
+            self.put(byte);
+        }
+    }
+
+    pub(crate) fn decimal(&mut self, n: u64) {
+        let mut digits = [0u8; 20];
+        let k = io::decimal(n, &mut digits);
+        self.text(&digits[..k]);
+    }
+
+    // The numbers, and that byte between two.
+    pub(crate) fn decimals<T: Copy + Into<u64>>(&mut self, numbers: &[T], between: u8) {
+        for (i, &n) in numbers.iter().enumerate() {
+            if 0 < i {
+                self.put(between);
+            }
+            self.decimal(n.into());
+        }
+    }
+
+    // Capital digits, "four or as many more as needed".
+    pub(crate) fn hex(&mut self, x: u32) {
+        let mut digits = [0u8; 16];
+        let k = io::hex(u64::from(x), 4, &mut digits);
+        for digit in &digits[..k] {
+            self.put(digit.to_ascii_uppercase());
+        }
+    }
 }

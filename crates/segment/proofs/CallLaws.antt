@@ -1,5 +1,6 @@
 -- What the code of a call rests on: the parser's rule is chosen by its name, and the tokens in the array are the stream.
 -- Assumes nothing.
+use Rattle.std.specs.Prelude.{Ok, Err}
 use Prim.Native.Nat.{ℕ, ◌<◌, ◌≤◌, min}
 use mathlib.Core.Path.{◌≡◌, refl, sym, ◌∙◌}
 use mathlib.Core.Bool.{Bool, true, false}
@@ -19,8 +20,7 @@ use Rattle.records.specs.contracts.Parser.{the_type}
 use Rattle.records.specs.declared.Parser.TheVariants.{Simple, Myanmar, Complex, Khmer}
 use Rattle.records.specs.declared.Side.TheVariants.{Neither}
 use Rattle.records.specs.declared.Refusal.{Refusal}
-use Rattle.records.specs.declared.Verdict.{Verdict}
-use Rattle.records.specs.declared.Verdict.TheVariants.{Accepted, Refused}
+use Rattle.records.specs.Verdict.{Verdict}
 use Rattle.records.proofs.Accepted.{accepted_sound}
 use Rattle.stream.specs.Stream.{source_of, splits_of, itself, split, gather, stream_of, count_from}
 use Rattle.stream.proofs.Accepted.{few, stream_room}
@@ -87,7 +87,7 @@ module _ (mode : Mode) (parser : Parser) (t : Text) where
   by_parts stream room n cells e f = rw e (record { number = f.0; same = f.1 })
 
   -- every accepted text fits
-  pub streamed : verdict parser t ≡ Accepted → Streamed mode parser t
+  pub streamed : verdict parser t ≡ Ok tt → Streamed mode parser t
   streamed e =
       record { few = few parser t (accepted_sound parser t e); room = stream_room mode parser t (accepted_sound parser t e) }
 
@@ -113,10 +113,10 @@ pub count_fits : (mode : Mode) (parser : Parser) (t : Text) (r : ℕ) → Stream
 count_fits mode parser t r w e = omega (arith, e, counted mode parser t w.few)
 
 module _ (s : Segmenter) (t : Text) where
-  pub next_accepted : (v : Verdict) (r : Answer) → v ≡ verdict s.parser t → v ≡ Accepted → (Streamed s.mode s.parser t → r ≡ answer_in s (stream_of s.mode s.parser t)) → r ≡ next_of s t
+  pub next_accepted : (v : Verdict) (r : Answer) → v ≡ verdict s.parser t → v ≡ Ok tt → (Streamed s.mode s.parser t → r ≡ answer_in s (stream_of s.mode s.parser t)) → r ≡ next_of s t
   unfolding next_of
   next_accepted v r e h f = rw (← e, h) (f (streamed s.mode s.parser t (sym e ∙ h)))
 
-  pub next_refused : (v : Verdict) (a : Answer) (r : Refusal) → v ≡ verdict s.parser t → v ≡ Refused r → a ≡ refused s r → a ≡ next_of s t
+  pub next_refused : (v : Verdict) (a : Answer) (r : Refusal) → v ≡ verdict s.parser t → v ≡ Err r → a ≡ refused s r → a ≡ next_of s t
   unfolding next_of
   next_refused v a r e h f = rw (← e, h) f

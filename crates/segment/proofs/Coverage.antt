@@ -1,5 +1,6 @@
 -- What the theorems of Demands.antt rest on: the four outcomes of a stepping call, and what one call's characters and those of all calls
 -- cover. Assumes nothing.
+use Rattle.std.specs.Prelude.{Ok, Err}
 use Prim.Native.Nat.{ℕ, zero, suc, ◌+◌, ◌*◌, ◌<◌, ◌≤◌}
 use mathlib.Core.Path.{◌≡◌, refl, sym, ◌∙◌, ap, subst}
 use mathlib.Core.List.{List, [], ◌∷◌, ◌++◌}
@@ -16,8 +17,7 @@ use Rattle.records.specs.Refusals.{refusal, verdict}
 use Rattle.records.specs.declared.Parser.{Parser}
 use Rattle.records.specs.declared.Side.TheVariants.{Neither}
 use Rattle.records.specs.declared.Refusal.{Refusal}
-use Rattle.records.specs.declared.Verdict.{Verdict}
-use Rattle.records.specs.declared.Verdict.TheVariants.{Accepted, Refused}
+use Rattle.records.specs.Verdict.{Verdict}
 use Rattle.stream.specs.Stream.{stream_of}
 use Rattle.token.specs.Token.{scalar_of, index_of}
 use Rattle.parse.specs.declared.Parse.{Parse}
@@ -44,14 +44,14 @@ call_of s t = called s.parser s.mode (tokens s t) s.place.at
 
 -- what holds of each outcome holds of the answer
 module _ (s : Segmenter) (t : Text) (P : Answer → Type 0)
-    (checked : (r : Refusal) → verdict s.parser t ≡ Refused r → P (refused s r))
-    (past : verdict s.parser t ≡ Accepted → length (tokens s t) < s.place.at → P (refused s (refusal 8 Neither 0)))
-    (over : verdict s.parser t ≡ Accepted → s.place.at ≡ length (tokens s t) → P (end s))
-    (inside : verdict s.parser t ≡ Accepted → s.place.at < length (tokens s t) → P (found s (tokens s t) (call_of s t))) where
+    (checked : (r : Refusal) → verdict s.parser t ≡ Err r → P (refused s r))
+    (past : verdict s.parser t ≡ Ok tt → length (tokens s t) < s.place.at → P (refused s (refusal 8 Neither 0)))
+    (over : verdict s.parser t ≡ Ok tt → s.place.at ≡ length (tokens s t) → P (end s))
+    (inside : verdict s.parser t ≡ Ok tt → s.place.at < length (tokens s t) → P (found s (tokens s t) (call_of s t))) where
   under : (v : Verdict) → verdict s.parser t ≡ v → P (answer_under v s t)
   unfolding answer_in
-  under (Refused r) e = checked r e
-  under Accepted e = if_intro P (ltb (length (tokens s t)) s.place.at) _ _ (λ h. past e (ltb-true _ _ h))
+  under (Err r) e = checked r e
+  under (Ok _) e = if_intro P (ltb (length (tokens s t)) s.place.at) _ _ (λ h. past e (ltb-true _ _ h))
       (λ h. if_intro P (eqb s.place.at (length (tokens s t))) _ _ (λ k. over e (eqb-true _ _ k))
       (λ k. ⊎_elim (λ q. absurd (eqb-false s.place.at (length (tokens s t)) k q)) (λ q. inside e q) (eq-or-lt_of_le (ltb-false _ _ h))))
 
@@ -60,7 +60,7 @@ module _ (s : Segmenter) (t : Text) (P : Answer → Type 0)
   next_case = under (verdict s.parser t) refl
 
 -- an accepted text is short enough for a count of notes
-pub accepted_short : (mode : Mode) (parser : Parser) (t : Text) → verdict parser t ≡ Accepted → length (stream_of mode parser t) ≤ 65535
+pub accepted_short : (mode : Mode) (parser : Parser) (t : Text) → verdict parser t ≡ Ok tt → length (stream_of mode parser t) ≤ 65535
 accepted_short mode parser t e = omega (arith, (streamed mode parser t e).room)
 
 -- a call from a place inside: it has a character, and the first is the token there

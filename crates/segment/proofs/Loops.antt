@@ -16,6 +16,7 @@ use Rattle.classes.specs.declared.Mode.TheVariants.{Crate, Whole}
 use Rattle.token.specs.Token.{scalar_of}
 use Rattle.records.specs.declared.Parser.{Parser}
 use Rattle.records.specs.declared.Parser.TheVariants.{Simple, Myanmar, Complex, Khmer}
+use Rattle.records.proofs.Passing.{not_so}
 use Rattle.parse.specs.State.{token_at, filled_at}
 use Rattle.parse.specs.Rule.{Rule, skip}
 use Rattle.tables.specs.Symbols.{index_of, rows_of, table_of, cell_at, Regular}
@@ -24,12 +25,14 @@ use Rattle.segment.specs.Calls.{joins}
 use Rattle.segment.specs.Inner.{Roomy}
 use Rattle.segment.specs.Seen.{use_parser}
 use Rattle.segment.specs.Standing.{Running}
+use Rattle.segment.specs.Ways.{crowds, over_cell, looked, Facing, Sees}
+use Rattle.segment.specs.declared.going.Look.{Look}
 use Rattle.segment.specs.Going.{started, goes_on, done_by, given_up, crowded_at, stop_of, back_of, refilled, overed, noted, written, turned, put_by, Wrote, Writable}
 use Rattle.segment.specs.declared.going.Going.{Going}
 use Rattle.segment.specs.declared.going.Stand.{Stand}
 use Rattle.segment.proofs.CallTurns.{run_starts}
 use Rattle.segment.proofs.TableTurn.{Next, Put, After}
-use Rattle.segment.proofs.TableLaws.{answer_of, sample_of, rules_of, decoded, okay_class, okay_row, okay_inside, crowds, Stands, turns, turn_okay, crowded_ends}
+use Rattle.segment.proofs.TableLaws.{answer_of, sample_of, rules_of, decoded, okay_class, okay_row, okay_inside, Stands, turns, turn_okay, crowded_ends}
 
 rows_some : (parser : Parser) → 0 < rows_of parser
 unfolding rows_of
@@ -38,7 +41,7 @@ rows_some Myanmar = omega arith
 rows_some Complex = omega arith
 rows_some Khmer = omega arith
 
-rows_most : (parser : Parser) → rows_of parser ≤ 64
+pub rows_most : (parser : Parser) → rows_of parser ≤ 64
 unfolding rows_of
 rows_most Simple = omega arith
 rows_most Myanmar = omega arith
@@ -283,16 +286,6 @@ pub crowds_use : (khmer : Bool) (mode : Mode) (text : List ℕ) (row i o stop : 
 crowds_use true mode text row i o stop = refl
 crowds_use false mode text row i o stop = refl
 
--- prepended characters that end before CR and LF
-pub goes_over : (mode : Mode) (text scalars₀ classes₀ clusters₀ : List ℕ) (roomy : Roomy text scalars₀ classes₀ clusters₀) (regular : Regular Simple text) (g : Going) (scalars classes clusters : List ℕ)
-    → Goes Simple mode text scalars₀ classes₀ clusters₀ roomy regular g scalars classes clusters → (r : Going) (full b : Bool) → g.at < length text → full ≡ eqb g.characters g.stop → full ≡ false
-    → b ≡ crowded_at mode text g.row g.at g.characters g.stop → b ≡ true → r ≡ overed g → Goes Simple mode text scalars₀ classes₀ clusters₀ roomy regular r scalars classes clusters
-goes_over mode text scalars₀ classes₀ clusters₀ roomy regular g scalars classes clusters w r full b h ef f eb t e =
-    let on : g.characters ≡ g.stop → ⊥ = eqb-false g.characters g.stop (sym ef ∙ f) in
-    subst (λ (r : Going). Goes Simple mode text scalars₀ classes₀ clusters₀ roomy regular r scalars classes clusters) (sym e)
-    (over_goes Simple mode text scalars₀ classes₀ clusters₀ roomy regular g scalars classes clusters w on
-    (crowded_ends mode text scalars₀ classes₀ clusters₀ roomy regular g.row scalars classes clusters g.at g.clusters g.stop g.characters h (sym eb ∙ t) (w.stands on)))
-
 -- the measure: tokens left, cells left, whether the cluster is full, whether one is under way
 
 abbrev fullness : ℕ → ℕ → ℕ
@@ -327,13 +320,6 @@ refill_falls m n g r f er =
     let c : underway 0 ≡ 0 = refl in
     subst (λ (r : Going). left n r < left n g) (sym er) (unfold left in omega (arith, a, b, c, back_up m g.at))
 
-pub over_falls : (mode : Mode) (text : List ℕ) (n : ℕ) (g r : Going) (b : Bool) → b ≡ crowded_at mode text g.row g.at g.characters g.stop → b ≡ true → r ≡ overed g → left n r < left n g
-unfolding left crowded_at
-over_falls mode text n g r b eb t er =
-    let a : g.row ≡ 6 = eqb-true g.row 6 (both_of (eqb g.row 6) _ (sym eb ∙ t)).0 in
-    let c : underway g.row ≡ 1 = ap underway a in
-    subst (λ (r : Going). left n r < left n g) (sym er) (unfold left in omega (arith, c))
-
 pub turn_falls : (n : ℕ) (g r : Going) (v : ℕ) (b : Bool) → g.at < n → g.characters ≤ 2 * g.at → b ≡ given_up v g.row → b ≡ false → r ≡ turned g v → left n r < left n g
 unfolding left turned
 turn_falls n g r v b h l eb f er = subst (λ (r : Going). left n r < left n g) (sym er) (unfold left turned in
@@ -353,3 +339,71 @@ turn_falls n g r v b h l eb f er = subst (λ (r : Going). left n r < left n g) (
 -- a turn more, of a cluster that is not full
 pub turn_inside : (g : Going) (n : ℕ) (b full : Bool) → b ≡ goes_on g n → b ≡ true → full ≡ eqb g.characters g.stop → full ≡ false → g.at < n
 turn_inside g n b full e t ef f = ltb-true g.at n (ap (λ c. cond c true (ltb g.at n)) (sym f ∙ ef) ∙ sym e ∙ t)
+
+-- the cell as a way to it tells, whether the cluster ends before the token or not
+crowded_row : (parser : Parser) (mode : Mode) (text : List ℕ) (row i o stop : ℕ) → crowds parser mode text row i o stop ≡ true → row ≡ 6
+unfolding crowded_at
+crowded_row Simple mode text row i o stop e = eqb-true row 6 (both_of (eqb row 6) _ e).0
+crowded_row Myanmar mode text row i o stop e = not_so e
+crowded_row Complex mode text row i o stop e = not_so e
+crowded_row Khmer mode text row i o stop e = not_so e
+
+crowded_over : (parser : Parser) (mode : Mode) (text scalars₀ classes₀ clusters₀ : List ℕ) (roomy : Roomy text scalars₀ classes₀ clusters₀) (regular : Regular parser text) (g : Going) (scalars classes clusters : List ℕ)
+    → Goes parser mode text scalars₀ classes₀ clusters₀ roomy regular g scalars classes clusters → g.at < length text → (g.characters ≡ g.stop → ⊥)
+    → crowds parser mode text g.row g.at g.characters g.stop ≡ true → Goes parser mode text scalars₀ classes₀ clusters₀ roomy regular (overed g) scalars classes clusters
+crowded_over Simple mode text scalars₀ classes₀ clusters₀ roomy regular g scalars classes clusters w l n e =
+    over_goes Simple mode text scalars₀ classes₀ clusters₀ roomy regular g scalars classes clusters w n
+    (crowded_ends mode text scalars₀ classes₀ clusters₀ roomy regular g.row scalars classes clusters g.at g.clusters g.stop g.characters l e (w.stands n))
+crowded_over Myanmar mode text scalars₀ classes₀ clusters₀ roomy regular g scalars classes clusters w l n e = not_so e
+crowded_over Complex mode text scalars₀ classes₀ clusters₀ roomy regular g scalars classes clusters w l n e = not_so e
+crowded_over Khmer mode text scalars₀ classes₀ clusters₀ roomy regular g scalars classes clusters w l n e = not_so e
+
+module _ (parser : Parser) (mode : Mode) (text scalars₀ classes₀ clusters₀ : List ℕ) (roomy : Roomy text scalars₀ classes₀ clusters₀) (regular : Regular parser text) (g : Going) (scalars classes clusters : List ℕ)
+    (w : Goes parser mode text scalars₀ classes₀ clusters₀ roomy regular g scalars classes clusters) (b full : Bool) (eb : b ≡ goes_on g (length text)) (tb : b ≡ true) (ef : full ≡ eqb g.characters g.stop) (tf : full ≡ false) where
+  unfilled : g.characters ≡ g.stop → ⊥
+  unfilled = eqb-false g.characters g.stop (sym ef ∙ tf)
+
+  inside : g.at < length text
+  inside = ltb-true g.at (length text) (ap (λ c. cond c true (ltb g.at (length text))) (sym tf ∙ ef) ∙ sym eb ∙ tb)
+
+  pub goes_facing : Facing parser text g
+  goes_facing = record { inside = inside; row_in = w.row_in; regular = regular; room = omega (arith, inside, w.low, roomy.short) }
+
+  pub goes_writable : Writable g scalars classes clusters
+  goes_writable = goes_room parser mode text scalars₀ classes₀ clusters₀ roomy regular g scalars classes clusters w inside
+
+  module _ (look : Look) (sees : Sees parser mode text g look) where
+    as_looked : crowds parser mode text g.row g.at g.characters g.stop ≡ false → Looked parser mode text g look.cell look.scalar
+    unfolding looked
+    as_looked f = record { inside = inside; unfilled = unfilled; uncrowded = f; cell = sees.cell ∙ ap (λ b. cond b over_cell (cell_at (joins parser) (table_of parser) (scalar_of (token_at text g.at)) (index_of parser mode text g.at g.row) g.row)) f; scalar = sees.scalar }
+
+    as_crowded : crowds parser mode text g.row g.at g.characters g.stop ≡ true → look.cell ≡ over_cell
+    unfolding looked
+    as_crowded f = sees.cell ∙ ap (λ b. cond b over_cell (cell_at (joins parser) (table_of parser) (scalar_of (token_at text g.at)) (index_of parser mode text g.at g.row) g.row)) f
+
+    over_turned : (r : Going) (os oc on : Both (MutBor (List ℕ)) (MutBor (List ℕ))) (v x : ℕ) → v ≡ over_cell → os.entry.now ≡ scalars → oc.entry.now ≡ classes → on.entry.now ≡ clusters → r ≡ turned g v → Wrote g v x os oc on
+        → Goes parser mode text scalars₀ classes₀ clusters₀ roomy regular (overed g) scalars classes clusters → Goes parser mode text scalars₀ classes₀ clusters₀ roomy regular r os.exit.now oc.exit.now on.exit.now
+    unfolding turned put_by
+    over_turned r os oc on v x ev es ec en er u o =
+        subst (λ (r : Going). Goes parser mode text scalars₀ classes₀ clusters₀ roomy regular r os.exit.now oc.exit.now on.exit.now) (sym (er ∙ ap (turned g) ev))
+        (subst (λ l. Goes parser mode text scalars₀ classes₀ clusters₀ roomy regular (overed g) l oc.exit.now on.exit.now) (sym (u.scalar ∙ ap (λ v. put_by v g.characters x os.entry.now) ev ∙ es))
+        (subst (λ l. Goes parser mode text scalars₀ classes₀ clusters₀ roomy regular (overed g) scalars l on.exit.now) (sym (u.class ∙ ap (λ v. put_by v g.characters (v % 16) oc.entry.now) ev ∙ ec))
+        (subst (λ l. Goes parser mode text scalars₀ classes₀ clusters₀ roomy regular (overed g) scalars classes l) (sym (u.cluster ∙ ap (λ v. put_by v g.characters (g.clusters + done_by v - 1) on.entry.now) ev ∙ en)) o)))
+
+    -- a turn more
+    pub goes_seen : (r : Going) (os oc on : Both (MutBor (List ℕ)) (MutBor (List ℕ))) → os.entry.now ≡ scalars → oc.entry.now ≡ classes → on.entry.now ≡ clusters → r ≡ turned g look.cell → Wrote g look.cell look.scalar os oc on
+        → Goes parser mode text scalars₀ classes₀ clusters₀ roomy regular r os.exit.now oc.exit.now on.exit.now
+    goes_seen r os oc on es ec en er u =
+        by_test (crowds parser mode text g.row g.at g.characters g.stop)
+        (λ e. over_turned r os oc on look.cell look.scalar (as_crowded e) es ec en er u (crowded_over parser mode text scalars₀ classes₀ clusters₀ roomy regular g scalars classes clusters w inside unfilled e))
+        (λ e. goes_turn parser mode text scalars₀ classes₀ clusters₀ roomy regular g scalars classes clusters w look.cell look.scalar (as_looked e) r os oc on es ec en er u)
+
+    -- the table gives the cluster up
+    pub goes_left : (s : Stand) (u : Bool) → u ≡ given_up look.cell g.row → u ≡ true → s ≡ standing g → Running parser mode text scalars₀ classes₀ clusters₀ scalars classes clusters s.at s.clusters s.characters
+    goes_left s u eu t e =
+        by_test (crowds parser mode text g.row g.at g.characters g.stop)
+        (λ f. absurd (omega (arith, crowded_row parser mode text g.row g.at g.characters g.stop f, eqb-true g.row 0 (both_of (eqb (done_by look.cell) 3) _ (sym eu ∙ t)).1)))
+        (λ f. goes_leave parser mode text scalars₀ classes₀ clusters₀ roomy regular g scalars classes clusters w look.cell look.scalar (as_looked f) s u eu t e)
+
+    pub seen_falls : (r : Going) (u : Bool) → u ≡ given_up look.cell g.row → u ≡ false → r ≡ turned g look.cell → left (length text) r < left (length text) g
+    seen_falls r u eu t e = turn_falls (length text) g r look.cell u inside w.low eu t e

@@ -1,5 +1,6 @@
 -- The refusals of the stepping call and of the full run: each says what the table of SCOPE 5.1 says, the check's lines and its own.
 -- Assumes nothing.
+use Rattle.std.specs.Prelude.{Ok, Err}
 use Prim.Native.Nat.{ℕ, ◌≤◌}
 use mathlib.Core.Path.{◌≡◌, refl, sym, ◌∙◌, ap}
 use mathlib.Core.List.{List, [], ◌∷◌}
@@ -12,8 +13,7 @@ use Rattle.records.specs.Refusals.{◌⊳◌, verdict}
 use Rattle.records.specs.Offences.{table_of, ByTable, Asks}
 use Rattle.records.specs.declared.Parser.{Parser}
 use Rattle.records.specs.declared.Side.TheVariants.{Neither}
-use Rattle.records.specs.declared.Verdict.{Verdict}
-use Rattle.records.specs.declared.Verdict.TheVariants.{Accepted, Refused}
+use Rattle.records.specs.Verdict.{Verdict}
 use Rattle.records.proofs.Tables.{first_line}
 use Rattle.records.proofs.Judged.{alone, call_by_table}
 use Rattle.stream.specs.Stream.{stream_of}
@@ -51,8 +51,8 @@ module _ (s : Segmenter) (t : Text) where
 -- # The full run
 
 pub under_verdict : (v : Verdict) (calls : List Parse) → (run_under v calls).verdict ≡ v
-under_verdict Accepted calls = refl
-under_verdict (Refused r) calls = refl
+under_verdict (Ok _) calls = refl
+under_verdict (Err r) calls = refl
 
 module _ (parser : Parser) (mode : Mode) (t : Text) (scalars classes clusters : List ℕ) (r : RunAnswer) (scalars' classes' clusters' : List ℕ) (ran : RanOf parser mode t scalars classes clusters r scalars' classes' clusters') where
   abbrev room : ℕ

@@ -1,4 +1,5 @@
 -- A run that stands: begun, brought on, and over. Assumes nothing.
+use Rattle.std.specs.Prelude.{Ok}
 use Prim.Native.Nat.{ℕ, ◌*◌, ◌≤◌, min}
 use mathlib.Core.Path.{◌≡◌, sym, ◌∙◌, subst}
 use mathlib.Core.List.{List}
@@ -8,7 +9,6 @@ use Rattle.classes.specs.declared.Mode.{Mode}
 use Rattle.records.specs.Text.{Text}
 use Rattle.records.specs.Sound.{Sound}
 use Rattle.records.specs.declared.Parser.{Parser}
-use Rattle.records.specs.declared.Verdict.TheVariants.{Accepted}
 use Rattle.stream.specs.Stream.{stream_of, most_tokens}
 use Rattle.parse.specs.declared.Parse.{Parse}
 use Rattle.parse.specs.declared.Pushed.{Pushed}
@@ -72,7 +72,7 @@ On parser mode stream s c n f s' c' n' r = (s₀ c₀ n₀ : List ℕ) → Roomy
 
 -- every run that stood at f is over
 abbrev Done : Parser → Mode → List ℕ → List ℕ → List ℕ → List ℕ → Stand → RunAnswer → List ℕ → List ℕ → List ℕ → Type 0
-Done parser mode stream s c n f a s' c' n' = (s₀ c₀ n₀ : List ℕ) → Roomy stream s₀ c₀ n₀ → At parser mode stream s₀ c₀ n₀ s c n f → Ran Accepted (calls_of parser mode stream) s₀ c₀ n₀ a s' c' n'
+Done parser mode stream s c n f a s' c' n' = (s₀ c₀ n₀ : List ℕ) → Roomy stream s₀ c₀ n₀ → At parser mode stream s₀ c₀ n₀ s c n f → Ran (Ok tt) (calls_of parser mode stream) s₀ c₀ n₀ a s' c' n'
 
 pub ready_direct : (parser : Parser) (mode : Mode) (t : Text) (s c n : List ℕ) → Direct mode parser t → Sound parser t → Roomy (stream_of mode parser t) s c n → Ready parser t s c n
 ready_direct parser mode t s c n d sound r = record {
@@ -85,10 +85,6 @@ pub stands_in_lem : (parser : Parser) (mode : Mode) (stream text s c n : List �
 stands_in_lem parser mode stream text s c n f e w = subst (λ l. Stood parser mode l s c n f) (sym e) w
 
 module _ (s c n s' c' n' : List ℕ) where
-  -- what a loop gives, by its parser's own name
-  pub reached_as : (p q : Parser) (mode : Mode) (t : Text) (r : Stand) → p ≡ q → At q mode (seen_by q t) s c n s' c' n' r → At p mode (seen_by p t) s c n s' c' n' r
-  reached_as p q mode t r e w = subst (λ p. At p mode (seen_by p t) s c n s' c' n' r) (sym e) w
-
   module _ (parser : Parser) (mode : Mode) (t : Text) (d : Direct mode parser t) where
     pub begun_direct : (r : Stand) → At parser mode (seen_by parser t) s c n s' c' n' r → At parser mode (stream_of mode parser t) s c n s' c' n' r
     begun_direct r w = subst (λ l. At parser mode l s c n s' c' n' r) (sym d.same) w

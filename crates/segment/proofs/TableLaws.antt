@@ -21,6 +21,7 @@ use Rattle.parse.specs.declared.Flow.TheVariants.{Stop}
 use Rattle.parse.specs.State.{token_at, last_room, going, with_flow, begin}
 use Rattle.parse.specs.Rule.{Rule, Test, skip, run, is, next_is, is_emoji}
 use Rattle.simple.proofs.Moved.{ends_here}
+use Rattle.segment.specs.Ways.{crowds}
 use Rattle.segment.specs.Calls.{grammar, joins}
 use Rattle.segment.specs.Inner.{Roomy}
 use Rattle.segment.specs.Going.{newline_at, last_cell, crowded_at}
@@ -181,13 +182,6 @@ fine_of Simple mode text g i h = simple-fine.fine_simple text g
 fine_of Myanmar mode text g i h = my-fine.fine_myanmar mode text g
 fine_of Complex mode text g i h = use-fine.fine_complex false text g
 fine_of Khmer mode text g i h = use-fine.fine_complex true text g
-
--- no room for CR and LF
-abbrev pub crowds : Parser → Mode → List ℕ → ℕ → ℕ → ℕ → ℕ → Bool
-crowds Simple mode text row i o stop = crowded_at mode text row i o stop
-crowds Myanmar mode text row i o stop = false
-crowds Complex mode text row i o stop = false
-crowds Khmer mode text row i o stop = false
 
 -- the room of a call, and of the run that writes it
 room_same : (m : Mode) (n o stop : ℕ) → n + stop ≡ o + 32 → last_room m n ≡ last_cell m o stop

@@ -37,10 +37,6 @@ NextIn s t room r = length (stream_of s.mode s.parser t) ≤ room → r ≡ answ
 abbrev pub NextOn : Segmenter → Text → Answer → Type 0
 NextOn s t r = Streamed s.mode s.parser t → r ≡ answer_in s (stream_of s.mode s.parser t)
 
--- the same, where it has at most n tokens
-abbrev pub NextFor : Segmenter → Text → ℕ → Answer → Type 0
-NextFor s t n r = length (stream_of s.mode s.parser t) ≤ n → NextOn s t r
-
 -- a run over the tokens of an accepted text
 abbrev pub RanOn : Parser → Mode → List ℕ → List ℕ → List ℕ → List ℕ → RunAnswer → List ℕ → List ℕ → List ℕ → Type 0
 RanOn parser mode stream scalars classes clusters =

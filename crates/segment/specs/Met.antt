@@ -1,11 +1,11 @@
 -- "An enum's cases have their numbers from this document by a definition that the contracts use" (SCOPE 10): what a call met (4.4). And
 -- the lines of the table of refusals that are the stepping call's and the full run's own.
-use Rattle.std.specs.Prelude.{ℕ, ◌*◌, ◌<◌, ◌≡◌, List, ltb, length}
+use Rattle.std.specs.Prelude.{ℕ, ◌*◌, ◌<◌, ◌≡◌, List, Ok, Err, ltb, length}
 use Rattle.classes.specs.declared.Mode.{Mode}
 use Rattle.records.specs.Text.{Text}
 use Rattle.records.specs.Offences.{Line, line}
 use Rattle.records.specs.declared.Parser.{Parser}
-use Rattle.records.specs.declared.Verdict.{Verdict}
+use Rattle.records.specs.Verdict.{Verdict}
 use Rattle.stream.specs.Stream.{stream_of}
 use Rattle.segment.specs.declared.Segmenter.{Segmenter}
 use Rattle.segment.specs.declared.Answer.{Answer}
@@ -23,9 +23,9 @@ what_code (Refused r) = 2
 
 -- the refusal, with the table's number, its side and its index
 abbrev pub refusal_in : What → Verdict
-refusal_in Found = Verdict.Accepted
-refusal_in Over = Verdict.Accepted
-refusal_in (Refused r) = Verdict.Refused r
+refusal_in Found = Ok tt
+refusal_in Over = Ok tt
+refusal_in (Refused r) = Err r
 
 -- the whole answer: before the end the next place, the cluster and the number of tokens passed; at the end the same place, the empty
 -- cluster and 0; with a refusal the place that was given, the empty cluster and 0 (SCOPE 4.2, 5.4)

@@ -1,160 +1,133 @@
-// The loops over a table that read the lent columns: no token is kept, no array filled. Each parser has a loop of its own, so that its
-// columns and its way to the cell are constants in it; what a turn does with the cell is `Going`'s.
-ghost use Rattle.std.specs.Prelude.{◌≡◌, length, ◌<◌, ◌≤◌};
-ghost use Rattle.classes.specs.declared.Mode.TheVariants.{Crate};
+// The ways to the cells of a text whose records are its tokens: each token is read from the lent columns, none is kept, no array filled.
+#![tactic(auto, unfolding(crate::specs::Seen::kinzi_in, crate::specs::Seen::ends_in, crate::specs::Seen::myanmar_seen, crate::specs::Seen::myanmar_index, tables::specs::Symbols::myanmar_in, tables::specs::Symbols::use_index), using(crate::proofs::Reading::seen_ways))]
+
+ghost use Rattle.std.specs.Prelude.{◌≡◌, List, length, ◌<◌, ◌≤◌};
 ghost use Rattle.records.specs.Text.{lent};
-ghost use Rattle.records.specs.declared.Parser.TheVariants.{Simple, Myanmar, Complex, Khmer};
+ghost use Rattle.records.specs.declared.Parser.TheVariants.{Simple, Myanmar};
 ghost use Rattle.parse.specs.State.{token_at};
 ghost use Rattle.tables.specs.Symbols.{use_index, table_of};
 ghost use Rattle.segment.specs.Going.{newline_at, crowded_at};
-ghost use Rattle.segment.specs.Seen.{seen_in, use_parser, Even, kinzi_in, ends_in, myanmar_seen, myanmar_index};
+ghost use Rattle.segment.specs.Seen.{seen_of, EvenSeen, Shown, use_parser, kinzi_in, ends_in, myanmar_seen, myanmar_index};
 ghost use Rattle.segment.specs.Standing.{Ready, ReachedIn};
 
-use crate::going::{Going, Stand, cell, gives_up};
+use crate::going::{Going, Look, OVER, Stand, cell_at};
+use crate::way::{Way, by_table};
 use classes::{Mode, cluster_break, myanmar_class, scalar};
 use myanmar::begins_kinzi;
-use records::Parser;
-use records::cells::{cell32, length32};
+use records::cells::cell;
+use records::{Columns, Parser};
 use tables::complex_table::COMPLEX;
 use tables::khmer_table::KHMER;
 use tables::myanmar_table::MYANMAR;
 use tables::simple_table::SIMPLE;
 use tables::{emoji_symbol, myanmar_other, simple_symbol, use_symbol};
 
-// Record i as a token. It is packed in a register and taken apart at once: the compiler leaves of both what is asked for.
-pub(crate) fn token_at(
-    scalars: &[u32],
-    kinds: &[u8],
-    breaks: &[u8],
-    categories: &[u8],
-    emojis: &[u8],
-    selectors: &[u8],
-    i: usize,
-) -> u64
-    requires { Even scalars.now kinds.now breaks.now categories.now emojis.now selectors.now × (i < length scalars.now) }
-    ensures { result ≡ token_at (seen_in scalars.now kinds.now breaks.now categories.now emojis.now selectors.now) i }
-{
-    token::pack(
-        scalars[i],
-        kinds[i],
-        breaks[i],
-        categories[i],
-        emojis[i],
-        selectors[i],
-        (i % 4096) as u16,
-    )
+// The records as one parser sees them: its own classes and emoji marks.
+#[derive(Clone, Copy)]
+pub(crate) struct Seen<'a> {
+    pub scalars: &'a [u32],
+    pub kinds: &'a [u8],
+    pub breaks: &'a [u8],
+    pub categories: &'a [u8],
+    pub emojis: &'a [u8],
+    pub selectors: &'a [u8],
 }
 
 // The row of the simple table behind prepended characters.
 const PREPENDED: usize = 6;
 
-// Whether record i is a CR without the emoji mark, and an LF behind it.
-fn is_newline(
-    scalars: &[u32],
-    breaks: &[u8],
-    categories: &[u8],
-    emojis: &[u8],
-    selectors: &[u8],
-    i: usize,
-) -> bool
-    requires { Even scalars.now breaks.now breaks.now categories.now emojis.now selectors.now × (i < length scalars.now) }
-    ensures { result ≡ newline_at (seen_in scalars.now breaks.now breaks.now categories.now emojis.now selectors.now) i }
-{
-    let t = token_at(scalars, breaks, breaks, categories, emojis, selectors, i);
-    if token::kind(t) == cluster_break::CR {
-        if token::emoji(t) == 1 {
+impl<'a> Seen<'a> {
+    pub(crate) fn of(columns: &Columns<'a>, kinds: &'a [u8], emojis: &'a [u8]) -> Seen<'a>
+        ensures { Shown (lent columns.now) kinds.now emojis.now result }
+    {
+        Seen {
+            scalars: columns.scalars,
+            kinds,
+            breaks: columns.breaks,
+            categories: columns.categories,
+            emojis,
+            selectors: columns.selectors,
+        }
+    }
+
+    // Record i as a token. It is packed in a register and taken apart at once: the compiler leaves of both what is asked for.
+    pub(crate) fn token_at(&self, i: usize) -> u64
+        requires { EvenSeen self.now × (i < length self.now.scalars.now) }
+        ensures { result ≡ token_at (seen_of self.now) i }
+    {
+        token::pack(
+            self.scalars[i],
+            self.kinds[i],
+            self.breaks[i],
+            self.categories[i],
+            self.emojis[i],
+            self.selectors[i],
+            (i % 4096) as u16,
+        )
+    }
+
+    // Whether record i is a CR without the emoji mark, and an LF behind it.
+    fn is_newline(&self, i: usize) -> bool
+        requires { EvenSeen self.now × (i < length self.now.scalars.now) }
+        ensures { result ≡ newline_at (seen_of self.now) i }
+    {
+        let t = self.token_at(i);
+        if token::kind(t) != cluster_break::CR
+            || token::emoji(t) == 1
+            || self.scalars.len() <= i + 1
+        {
             return false;
         }
-        if i + 1 < scalars.len() {
-            let next = token_at(
-                scalars,
-                breaks,
-                breaks,
-                categories,
-                emojis,
-                selectors,
-                i + 1,
-            );
-            return token::kind(next) == cluster_break::LF;
-        }
-        return false;
+        token::kind(self.token_at(i + 1)) == cluster_break::LF
     }
-    false
+
+    // Whether the cluster under way ends before the record at its place: prepended characters, and no room for both CR and LF (SCOPE 6.9).
+    fn is_crowded(&self, mode: Mode, g: Going) -> bool
+        requires { EvenSeen self.now × (g.at < length self.now.scalars.now) × (g.characters ≤ 65535) }
+        ensures { result ≡ crowded_at mode (seen_of self.now) g.row g.at g.characters g.stop }
+    {
+        g.row == PREPENDED && g.has_last_cell(mode) && self.is_newline(g.at)
+    }
 }
 
-// Whether the cluster under way ends before the record at its place: prepended characters, and no room for both CR and LF (SCOPE 6.9).
-fn is_crowded(
-    mode: Mode,
-    g: Going,
-    scalars: &[u32],
-    breaks: &[u8],
-    categories: &[u8],
-    emojis: &[u8],
-    selectors: &[u8],
-) -> bool
-    requires { Even scalars.now breaks.now breaks.now categories.now emojis.now selectors.now × (g.at < length scalars.now) × (g.characters ≤ 65535) }
-    ensures { result ≡ crowded_at mode (seen_in scalars.now breaks.now breaks.now categories.now emojis.now selectors.now) g.row g.at g.characters g.stop }
-{
-    if g.row == PREPENDED {
-        if g.has_last_cell(mode) {
-            return is_newline(scalars, breaks, categories, emojis, selectors, g.at);
-        }
-        return false;
-    }
-    false
+#[derive(Clone, Copy)]
+struct BySimple<'a> {
+    seen: Seen<'a>,
 }
 
-fn by_simple<'s, 'a>(
-    mode: Mode,
-    wides: &'s [&'a [u32]; 2],
-    bytes: &'s [&'a [u8]; 15],
-    firsts: &'a [u16],
-    oscalars: &mut [u32],
-    oclasses: &mut [u8],
-    oclusters: &mut [u16],
-) -> Stand
-    requires { Ready Simple (lent wides bytes firsts) oscalars.old oclasses.old oclusters.old }
-    ensures { ReachedIn Simple mode (lent wides.entry bytes.entry firsts.entry) oscalars oclasses oclusters result }
-{
-    let table = SIMPLE;
-    let scalars = wides[0];
-    let breaks = bytes[0];
-    let categories = bytes[3];
-    let emojis = bytes[5];
-    let selectors = bytes[9];
-    let n = length32(scalars);
-    let mut g = Going::START;
-    while g.goes_on(n) {
-        if g.is_full() {
-            g = g.refill(mode);
-        } else if is_crowded(mode, g, scalars, breaks, categories, emojis, selectors) {
-            g = g.over();
-        } else {
-            let i = g.at;
-            let row = g.row;
-            let t = token_at(scalars, breaks, breaks, categories, emojis, selectors, i);
-            let x = token::scalar(t);
-            let v = cell(false, &table, x, simple_symbol(t) * 9 + row, row);
-            if gives_up(v, row) {
-                return g.stand();
-            }
-            g = g.turn(v, x, oscalars, oclasses, oclusters);
-        }
+impl Way for BySimple<'_> {
+    ghost parser = { λ w. Simple };
+
+    ghost tokens = { λ w. seen_of w.seen };
+
+    ghost ready = { λ w. EvenSeen w.seen };
+
+    fn count(&self) -> usize {
+        self.seen.scalars.len()
     }
-    g.stand()
+
+    fn look(&self, mode: Mode, g: Going) -> Look {
+        if self.seen.is_crowded(mode, g) {
+            return Look {
+                cell: OVER,
+                scalar: token::scalar(self.seen.token_at(g.at)),
+            };
+        }
+        let t = self.seen.token_at(g.at);
+        let scalar = token::scalar(t);
+        let index = simple_symbol(t) * 9 + g.row;
+        let cell = cell_at(false, &SIMPLE, scalar, index, g.row);
+        Look { cell, scalar }
+    }
 }
 
 fn kinzi_at(scalars: &[u32], i: usize) -> bool
     requires { i < length scalars.now }
     ensures { result ≡ kinzi_in scalars.now i }
 {
-    if begins_kinzi(scalars[i]) {
-        if cell32(scalars, i + 1) == scalar::ASAT {
-            return cell32(scalars, i + 2) == scalar::VIRAMA;
-        }
-        return false;
-    }
-    false
+    begins_kinzi(scalars[i])
+        && cell(scalars, i + 1, 0) == scalar::ASAT
+        && cell(scalars, i + 2, 0) == scalar::VIRAMA
 }
 
 // Whether behind a kinzi the text ends or U+034F stands: in crate mode repeat (b) can follow, which the calls make.
@@ -162,20 +135,7 @@ fn ends_at(mode: Mode, scalars: &[u32], i: usize) -> bool
     requires { i < length scalars.now }
     ensures { result ≡ ends_in mode scalars.now i }
 {
-    match mode {
-        Mode::Crate => ends_crate(scalars, i),
-        Mode::Whole => false,
-    }
-}
-
-fn ends_crate(scalars: &[u32], i: usize) -> bool
-    requires { i < length scalars.now }
-    ensures { result ≡ ends_in Crate scalars.now i }
-{
-    if i + 3 < scalars.len() {
-        return scalars[i + 3] == scalar::CGJ;
-    }
-    true
+    matches!(mode, Mode::Crate) && (scalars.len() <= i + 3 || scalars[i + 3] == scalar::CGJ)
 }
 
 fn myanmar_symbol(mode: Mode, scalars: &[u32], t: u64, i: usize) -> usize
@@ -190,12 +150,10 @@ fn myanmar_symbol(mode: Mode, scalars: &[u32], t: u64, i: usize) -> usize
         return myanmar_other(t);
     }
     if kinzi_at(scalars, i) {
-        if ends_at(mode, scalars, i) {
-            return 33;
-        }
-        return 32;
+        if ends_at(mode, scalars, i) { 33 } else { 32 }
+    } else {
+        kind as usize
     }
-    kind as usize
 }
 
 // The index of the cell: the last row, behind an emoji, has symbols of its own.
@@ -204,49 +162,35 @@ fn myanmar_index(mode: Mode, scalars: &[u32], t: u64, i: usize, row: usize) -> u
     ensures { result ≡ myanmar_index mode scalars.now t i row }
 {
     if row < 34 {
-        return myanmar_symbol(mode, scalars, t, i) * 34 + row;
+        myanmar_symbol(mode, scalars, t, i) * 34 + row
+    } else {
+        1156 + emoji_symbol(t)
     }
-    1156 + emoji_symbol(t)
 }
 
-fn by_myanmar<'s, 'a>(
-    mode: Mode,
-    wides: &'s [&'a [u32]; 2],
-    bytes: &'s [&'a [u8]; 15],
-    firsts: &'a [u16],
-    oscalars: &mut [u32],
-    oclasses: &mut [u8],
-    oclusters: &mut [u16],
-) -> Stand
-    requires { Ready Myanmar (lent wides bytes firsts) oscalars.old oclasses.old oclusters.old }
-    ensures { ReachedIn Myanmar mode (lent wides.entry bytes.entry firsts.entry) oscalars oclasses oclusters result }
-{
-    let table = MYANMAR;
-    let scalars = wides[0];
-    let kinds = bytes[2];
-    let breaks = bytes[0];
-    let categories = bytes[3];
-    let emojis = bytes[6];
-    let selectors = bytes[9];
-    let n = length32(scalars);
-    let mut g = Going::START;
-    while g.goes_on(n) {
-        if g.is_full() {
-            g = g.refill(mode);
-        } else {
-            let i = g.at;
-            let row = g.row;
-            let t = token_at(scalars, kinds, breaks, categories, emojis, selectors, i);
-            let x = token::scalar(t);
-            let index = myanmar_index(mode, scalars, t, i, row);
-            let v = cell(true, &table, x, index, row);
-            if gives_up(v, row) {
-                return g.stand();
-            }
-            g = g.turn(v, x, oscalars, oclasses, oclusters);
-        }
+#[derive(Clone, Copy)]
+struct ByMyanmar<'a> {
+    seen: Seen<'a>,
+}
+
+impl Way for ByMyanmar<'_> {
+    ghost parser = { λ w. Myanmar };
+
+    ghost tokens = { λ w. seen_of w.seen };
+
+    ghost ready = { λ w. EvenSeen w.seen };
+
+    fn count(&self) -> usize {
+        self.seen.scalars.len()
     }
-    g.stand()
+
+    fn look(&self, mode: Mode, g: Going) -> Look {
+        let t = self.seen.token_at(g.at);
+        let scalar = token::scalar(t);
+        let index = myanmar_index(mode, self.seen.scalars, t, g.at, g.row);
+        let cell = cell_at(true, &MYANMAR, scalar, index, g.row);
+        Look { cell, scalar }
+    }
 }
 
 pub(crate) fn use_index(khmer: bool, t: u64, row: usize) -> usize
@@ -254,106 +198,75 @@ pub(crate) fn use_index(khmer: bool, t: u64, row: usize) -> usize
     ensures { result ≡ use_index khmer t row }
 {
     if row < 34 {
-        return use_symbol(khmer, t) * 34 + row;
+        use_symbol(khmer, t) * 34 + row
+    } else {
+        1496 + emoji_symbol(t)
     }
-    1496 + emoji_symbol(t)
 }
 
-// The complex parser, with the table of Khmer and with the other.
-fn by_use<'s, 'a>(
-    khmer: bool,
-    mode: Mode,
-    table: &[u16],
-    wides: &'s [&'a [u32]; 2],
-    bytes: &'s [&'a [u8]; 15],
-    firsts: &'a [u16],
-    oscalars: &mut [u32],
-    oclasses: &mut [u8],
-    oclusters: &mut [u16],
-) -> Stand
-    requires { (table.now ≡ table_of (use_parser khmer)) × Ready (use_parser khmer) (lent wides bytes firsts) oscalars.old oclasses.old oclusters.old }
-    ensures { ReachedIn (use_parser khmer) mode (lent wides.entry bytes.entry firsts.entry) oscalars oclasses oclusters result }
+// The table of the complex parser, with and without Khmer.
+pub(crate) fn use_table(khmer: bool) -> &'static [u16]
+    ensures { result.now ≡ table_of (use_parser khmer) }
 {
-    let scalars = wides[0];
-    let kinds = bytes[1];
-    let breaks = bytes[0];
-    let categories = bytes[3];
-    let emojis = bytes[7];
-    let selectors = bytes[9];
-    let n = length32(scalars);
-    let mut g = Going::START;
-    while g.goes_on(n) {
-        if g.is_full() {
-            g = g.refill(mode);
-        } else {
-            let i = g.at;
-            let row = g.row;
-            let t = token_at(scalars, kinds, breaks, categories, emojis, selectors, i);
-            let x = token::scalar(t);
-            let v = cell(true, table, x, use_index(khmer, t, row), row);
-            if gives_up(v, row) {
-                return g.stand();
-            }
-            g = g.turn(v, x, oscalars, oclasses, oclusters);
-        }
+    if khmer { &KHMER } else { &COMPLEX }
+}
+
+#[derive(Clone, Copy)]
+struct ByUse<'a, const KHMER: bool> {
+    seen: Seen<'a>,
+}
+
+impl<const KHMER: bool> Way for ByUse<'_, KHMER> {
+    ghost parser = { λ w. use_parser KHMER };
+
+    ghost tokens = { λ w. seen_of w.seen };
+
+    ghost ready = { λ w. EvenSeen w.seen };
+
+    fn count(&self) -> usize {
+        self.seen.scalars.len()
     }
-    g.stand()
+
+    fn look(&self, mode: Mode, g: Going) -> Look {
+        let t = self.seen.token_at(g.at);
+        let scalar = token::scalar(t);
+        let index = use_index(KHMER, t, g.row);
+        let cell = cell_at(true, use_table(KHMER), scalar, index, g.row);
+        Look { cell, scalar }
+    }
 }
 
-// Each names its own table: a table is copied to the stack where the function that names it begins, so a function that named both would
-// copy both.
-fn by_complex<'s, 'a>(
-    mode: Mode,
-    wides: &'s [&'a [u32]; 2],
-    bytes: &'s [&'a [u8]; 15],
-    firsts: &'a [u16],
-    oscalars: &mut [u32],
-    oclasses: &mut [u8],
-    oclusters: &mut [u16],
-) -> Stand
-    requires { Ready Complex (lent wides bytes firsts) oscalars.old oclasses.old oclusters.old }
-    ensures { ReachedIn Complex mode (lent wides.entry bytes.entry firsts.entry) oscalars oclasses oclusters result }
-{
-    by_use(
-        false, mode, &COMPLEX, wides, bytes, firsts, oscalars, oclasses, oclusters,
-    )
-}
-
-fn by_khmer<'s, 'a>(
-    mode: Mode,
-    wides: &'s [&'a [u32]; 2],
-    bytes: &'s [&'a [u8]; 15],
-    firsts: &'a [u16],
-    oscalars: &mut [u32],
-    oclasses: &mut [u8],
-    oclusters: &mut [u16],
-) -> Stand
-    requires { Ready Khmer (lent wides bytes firsts) oscalars.old oclasses.old oclusters.old }
-    ensures { ReachedIn Khmer mode (lent wides.entry bytes.entry firsts.entry) oscalars oclasses oclusters result }
-{
-    by_use(
-        true, mode, &KHMER, wides, bytes, firsts, oscalars, oclasses, oclusters,
-    )
-}
-
-// A run over a text whose records are the tokens, as far as the table goes.
-pub(crate) fn direct<'s, 'a>(
+// A run over a text whose records are the tokens, as far as the table goes. Each arm names another instance of the loop, which only a
+// `match` can choose; so it is in `tabled`, `parted`, `call`, `count_of` and `tokens_of`.
+pub(crate) fn direct(
     parser: Parser,
     mode: Mode,
-    wides: &'s [&'a [u32]; 2],
-    bytes: &'s [&'a [u8]; 15],
-    firsts: &'a [u16],
+    columns: &Columns,
     oscalars: &mut [u32],
     oclasses: &mut [u8],
     oclusters: &mut [u16],
 ) -> Stand
-    requires { Ready parser (lent wides bytes firsts) oscalars.old oclasses.old oclusters.old }
-    ensures { ReachedIn parser mode (lent wides.entry bytes.entry firsts.entry) oscalars oclasses oclusters result }
+    requires { Ready parser (lent columns.now) oscalars.old oclasses.old oclusters.old }
+    ensures { ReachedIn parser mode (lent columns.now) oscalars oclasses oclusters result }
 {
     match parser {
-        Parser::Simple => by_simple(mode, wides, bytes, firsts, oscalars, oclasses, oclusters),
-        Parser::Myanmar => by_myanmar(mode, wides, bytes, firsts, oscalars, oclasses, oclusters),
-        Parser::Complex => by_complex(mode, wides, bytes, firsts, oscalars, oclasses, oclusters),
-        Parser::Khmer => by_khmer(mode, wides, bytes, firsts, oscalars, oclasses, oclusters),
+        Parser::Simple => {
+            let seen = Seen::of(columns, columns.breaks, columns.semojis);
+            by_table(&BySimple { seen }, mode, oscalars, oclasses, oclusters)
+        }
+        Parser::Myanmar => {
+            let seen = Seen::of(columns, columns.myanmars, columns.memojis);
+            by_table(&ByMyanmar { seen }, mode, oscalars, oclasses, oclusters)
+        }
+        Parser::Complex => {
+            let seen = Seen::of(columns, columns.uses, columns.cemojis);
+            let way = ByUse::<false> { seen };
+            by_table(&way, mode, oscalars, oclasses, oclusters)
+        }
+        Parser::Khmer => {
+            let seen = Seen::of(columns, columns.uses, columns.cemojis);
+            let way = ByUse::<true> { seen };
+            by_table(&way, mode, oscalars, oclasses, oclusters)
+        }
     }
 }

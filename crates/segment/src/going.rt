@@ -1,4 +1,6 @@
-// A run by a table under way: what one cell makes of it. The loops of `direct` and `tabled` are this, each with its own way to the cell.
+// A run by a table under way: what one cell makes of it. The loops `by_table` of way.rt and `by_parts` of parted.rt are this.
+#![tactic(auto, unfolding(crate::specs::Going::last_cell, crate::specs::Going::stop_of, crate::specs::Going::back_of, crate::specs::Going::turned, crate::specs::Going::put_by, tables::specs::Symbols::cell_at))]
+
 ghost use Rattle.std.specs.Prelude.{◌≡◌, ◌-◌, ◌<◌, ◌≤◌, eqb, length};
 ghost use Rattle.tables.specs.Symbols.{joined_at, cell_at};
 ghost use Rattle.segment.specs.Going.{goes_on, given_up, last_cell, stop_of, back_of, refilled, overed, noted, turned, Writable, Wrote};
@@ -24,21 +26,26 @@ pub(crate) struct Going {
     pub characters: usize,
 }
 
+// What a turn looks at: a token's cell and its scalar. What the cell does is 2 bits of it, 0 to 3, as tools/tables writes the tables: it is
+// no enum.
+#[derive(Clone, Copy)]
+pub(crate) struct Look {
+    pub cell: u16,
+    pub scalar: u32,
+}
+
+// The cell by which a cluster is over.
+pub(crate) const OVER: u16 = 48;
+
 // A U+034F within a cluster, where it is stepped over.
 fn joining(joins: bool, x: u32, row: usize) -> bool
     ensures { result ≡ joined_at joins x row }
 {
-    if joins {
-        if x == classes::scalar::CGJ {
-            return 0 < row;
-        }
-        return false;
-    }
-    false
+    joins && x == classes::scalar::CGJ && 0 < row
 }
 
 // The cell of a table at an index.
-pub(crate) fn cell(joins: bool, table: &[u16], x: u32, index: usize, row: usize) -> u16
+pub(crate) fn cell_at(joins: bool, table: &[u16], x: u32, index: usize, row: usize) -> u16
     requires { (index < length table.now) × (row < 64) }
     ensures { result ≡ cell_at joins table.now x index row }
 {
@@ -52,10 +59,7 @@ pub(crate) fn cell(joins: bool, table: &[u16], x: u32, index: usize, row: usize)
 pub(crate) fn gives_up(v: u16, row: usize) -> bool
     ensures { result ≡ given_up v row }
 {
-    if v / 16 % 4 == 3 {
-        return row == 0;
-    }
-    false
+    v / 16 % 4 == 3 && row == 0
 }
 
 // Where the cluster is full: a new one 32 cells on.
@@ -117,20 +121,14 @@ impl Going {
         requires { self.characters ≤ 65535 }
         ensures { result ≡ last_cell mode self.characters self.stop }
     {
-        match mode {
-            Mode::Crate => false,
-            Mode::Whole => self.characters + 1 == self.stop,
-        }
+        matches!(mode, Mode::Whole) && self.characters + 1 == self.stop
     }
 
     // Whether a text of n tokens has a turn more: a full cluster of crate mode has, since its last token is looked at again.
     pub(crate) fn goes_on(self, n: usize) -> bool
         ensures { result ≡ goes_on self n }
     {
-        if self.is_full() {
-            return true;
-        }
-        self.at < n
+        self.is_full() || self.at < n
     }
 
     // Behind a full cluster.
@@ -141,9 +139,8 @@ impl Going {
         Going {
             at: back(mode, self.at),
             row: 0,
-            clusters: self.clusters,
             stop: self.characters + 32,
-            characters: self.characters,
+            ..self
         }
     }
 
@@ -151,13 +148,7 @@ impl Going {
     pub(crate) fn over(self) -> Going
         ensures { result ≡ overed self }
     {
-        Going {
-            at: self.at,
-            row: 0,
-            clusters: self.clusters,
-            stop: self.stop,
-            characters: self.characters,
-        }
+        Going { row: 0, ..self }
     }
 
     // The current token is noted.
@@ -168,13 +159,12 @@ impl Going {
         Going {
             at: self.at + 1,
             row: (v / 64) as usize,
-            clusters: self.clusters,
-            stop: self.stop,
-            characters: self.characters,
+            ..self
         }
     }
 
-    // The current token, a character of scalar x, by its cell: the cluster is over, the token is noted, or it is written.
+    // The current token, a character of scalar x, by its cell: the cluster is over, the token is noted, or it is written. The three columns
+    // are parameters, here and in all that write: C lends each by itself, and the contracts say of each what is in it (`Wrote`, `Reached`).
     pub(crate) fn turn(
         self,
         v: u16,

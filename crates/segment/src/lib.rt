@@ -9,32 +9,33 @@ mod regular;
 mod runs;
 mod streams;
 mod tabled;
+mod way;
 
 ghost use Rattle.std.specs.Prelude.{◌≡◌};
-ghost use Rattle.records.specs.Text.{text_of, lent};
+ghost use Rattle.records.specs.Text.{lent};
 ghost use Rattle.parse.specs.State.{start_place};
 ghost use Rattle.segment.specs.Calls.{next_of};
 ghost use Rattle.segment.specs.Met.{what_code, refusal_in};
 ghost use Rattle.segment.specs.Runs.{RanOf};
-ghost use Rattle.segment.specs.Standing.{RanLent};
 
 pub use calls::call;
 use classes::Mode;
 use parse::{Cluster, Place};
-use records::{Parser, Refusal, Verdict, check_in};
+use records::{Columns, Parser, Refusal, check};
 use runs::run_accepted;
-pub use streams::{count_of, tokens_of};
+pub use streams::{SHORT, count_of, tokens_of};
 
 // A parser over a text: which one, in which mode, and where it stands.
-#[derive(Clone, Copy)]
+#[derive(Clone, Copy, Debug, PartialEq, Eq)]
 pub struct Segmenter {
     pub parser: Parser,
     pub mode: Mode,
     pub place: Place,
 }
 
-// What a call met: a cluster, the end of the text, or a refusal.
-#[derive(Clone, Copy)]
+// What a call met: a cluster, the end of the text, or a refusal. It is no `Result` with the answer inside, here and in `RunAnswer`: the
+// contract says what a refusal leaves, too, the state and 0 and 0 (`answer_under`, `run_under`).
+#[derive(Clone, Copy, Debug, PartialEq, Eq)]
 pub enum What {
     Found,
     Over,
@@ -54,19 +55,18 @@ impl What {
     }
 
     // The refusal alone.
-    pub fn verdict(self) -> Verdict
+    pub fn verdict(self) -> Result<(), Refusal>
         ensures { result ≡ refusal_in self }
     {
         match self {
-            What::Found => Verdict::Accepted,
-            What::Over => Verdict::Accepted,
-            What::Refused(refusal) => Verdict::Refused(refusal),
+            What::Found | What::Over => Ok(()),
+            What::Refused(refusal) => Err(refusal),
         }
     }
 }
 
 // The next state, how many tokens the call passed, what it met, and the cluster.
-#[derive(Clone, Copy)]
+#[derive(Clone, Copy, Debug, PartialEq, Eq)]
 pub struct Answer {
     pub state: Segmenter,
     pub passed: usize,
@@ -75,9 +75,9 @@ pub struct Answer {
 }
 
 // What a full run met, and how many clusters and characters it wrote: 0 and 0 with a refusal.
-#[derive(Clone, Copy)]
+#[derive(Clone, Copy, Debug, PartialEq, Eq)]
 pub struct RunAnswer {
-    pub verdict: Verdict,
+    pub verdict: Result<(), Refusal>,
     pub clusters: usize,
     pub characters: usize,
 }
@@ -94,137 +94,29 @@ impl Segmenter {
     }
 
     // One call. The whole text is judged anew each time.
-    pub fn next_in<'s, 'a>(
-        self,
-        wides: &'s [&'a [u32]; 2],
-        bytes: &'s [&'a [u8]; 15],
-        firsts: &'a [u16],
-    ) -> Answer
-        ensures { result ≡ next_of self (lent wides.entry bytes.entry firsts.entry) }
+    pub fn next(self, columns: &Columns) -> Answer
+        ensures { result ≡ next_of self (lent columns.now) }
     {
-        let parser = self.parser;
-        let verdict = check_in(parser, wides, bytes, firsts);
-        let Verdict::Refused(refusal) = verdict else {
-            return self.next_accepted(wides, bytes, firsts);
-        };
-        self.refused(refusal)
-    }
-
-    // The same over the columns one by one.
-    pub fn next<'a>(
-        self,
-        scalars: &'a [u32],
-        breaks: &'a [u8],
-        uses: &'a [u8],
-        myanmars: &'a [u8],
-        categories: &'a [u8],
-        words: &'a [u8],
-        semojis: &'a [u8],
-        memojis: &'a [u8],
-        cemojis: &'a [u8],
-        pictographs: &'a [u8],
-        selectors: &'a [u8],
-        decomposes: &'a [u8],
-        firsts: &'a [u16],
-        counts: &'a [u8],
-        pscalars: &'a [u32],
-        pbreaks: &'a [u8],
-        puses: &'a [u8],
-        pcategories: &'a [u8],
-    ) -> Answer
-        ensures { result ≡ next_of self (text_of scalars.now breaks.now uses.now myanmars.now categories.now words.now semojis.now memojis.now cemojis.now pictographs.now selectors.now decomposes.now firsts.now counts.now pscalars.now pbreaks.now puses.now pcategories.now) }
-    {
-        let wides = [scalars, pscalars];
-        let bytes = [
-            breaks,
-            uses,
-            myanmars,
-            categories,
-            words,
-            semojis,
-            memojis,
-            cemojis,
-            pictographs,
-            selectors,
-            decomposes,
-            counts,
-            pbreaks,
-            puses,
-            pcategories,
-        ];
-        self.next_in(&wides, &bytes, firsts)
+        match check(self.parser, columns) {
+            Ok(()) => self.next_accepted(columns),
+            Err(refusal) => self.refused(refusal),
+        }
     }
 }
 
 // A full run: each pushed character's scalar, shape class and cluster number, in the three columns lent last.
-pub fn run_in<'s, 'a>(
+pub fn run(
     parser: Parser,
     mode: Mode,
-    wides: &'s [&'a [u32]; 2],
-    bytes: &'s [&'a [u8]; 15],
-    firsts: &'a [u16],
+    columns: &Columns,
     oscalars: &mut [u32],
     oclasses: &mut [u8],
     oclusters: &mut [u16],
 ) -> RunAnswer
-    ensures { RanLent parser mode (lent wides.entry bytes.entry firsts.entry) oscalars oclasses oclusters result }
+    ensures { RanOf parser mode (lent columns.now) oscalars.old oclasses.old oclusters.old result oscalars.new oclasses.new oclusters.new }
 {
-    let verdict = check_in(parser, wides, bytes, firsts);
-    let Verdict::Refused(refusal) = verdict else {
-        return run_accepted(
-            parser, mode, wides, bytes, firsts, oscalars, oclasses, oclusters,
-        );
-    };
-    RunAnswer::refused(refusal)
-}
-
-// The same over the columns one by one.
-pub fn run<'a>(
-    parser: Parser,
-    mode: Mode,
-    scalars: &'a [u32],
-    breaks: &'a [u8],
-    uses: &'a [u8],
-    myanmars: &'a [u8],
-    categories: &'a [u8],
-    words: &'a [u8],
-    semojis: &'a [u8],
-    memojis: &'a [u8],
-    cemojis: &'a [u8],
-    pictographs: &'a [u8],
-    selectors: &'a [u8],
-    decomposes: &'a [u8],
-    firsts: &'a [u16],
-    counts: &'a [u8],
-    pscalars: &'a [u32],
-    pbreaks: &'a [u8],
-    puses: &'a [u8],
-    pcategories: &'a [u8],
-    oscalars: &mut [u32],
-    oclasses: &mut [u8],
-    oclusters: &mut [u16],
-) -> RunAnswer
-    ensures { RanOf parser mode (text_of scalars.now breaks.now uses.now myanmars.now categories.now words.now semojis.now memojis.now cemojis.now pictographs.now selectors.now decomposes.now firsts.now counts.now pscalars.now pbreaks.now puses.now pcategories.now) oscalars.old oclasses.old oclusters.old result oscalars.new oclasses.new oclusters.new }
-{
-    let wides = [scalars, pscalars];
-    let bytes = [
-        breaks,
-        uses,
-        myanmars,
-        categories,
-        words,
-        semojis,
-        memojis,
-        cemojis,
-        pictographs,
-        selectors,
-        decomposes,
-        counts,
-        pbreaks,
-        puses,
-        pcategories,
-    ];
-    run_in(
-        parser, mode, &wides, &bytes, firsts, oscalars, oclasses, oclusters,
-    )
+    match check(parser, columns) {
+        Ok(()) => run_accepted(parser, mode, columns, oscalars, oclasses, oclusters),
+        Err(refusal) => RunAnswer::refused(refusal),
+    }
 }

@@ -1,65 +1,43 @@
 // The loop over a table on the columns of the complex parser, where records are split: each token is read where its record or part
 // stands, and no array is filled.
+#![tactic(auto, unfolding(crate::specs::Parted::is_whole, crate::specs::Parted::spot_after))]
+
 ghost use Rattle.std.specs.Prelude.{◌≡◌, length, ◌<◌};
 ghost use Rattle.records.specs.Text.{cell, lent};
-ghost use Rattle.records.specs.declared.Parser.TheVariants.{Complex, Khmer};
 ghost use Rattle.stream.specs.Stream.{stream_of, split_tokens};
-ghost use Rattle.tables.specs.Symbols.{table_of};
-ghost use Rattle.segment.specs.Seen.{seen_in, use_parser, Even};
+ghost use Rattle.segment.specs.Seen.{seen_of, use_parser, EvenSeen};
 ghost use Rattle.segment.specs.Parted.{is_whole, ReadBy, kept_in, spot_after, Apart, Parting};
 ghost use Rattle.segment.specs.Standing.{Reached};
 
-use crate::direct::{token_at, use_index};
-use crate::going::{Going, Stand, cell, gives_up};
+use crate::direct::{Seen, use_index, use_table};
+use crate::going::{Going, Stand, cell_at, gives_up};
 use classes::Mode;
-use records::Parser;
+use records::{Columns, Parser};
 use stream::is_split_sign;
 use stream::spots::{Spot, Taken, take};
-use tables::complex_table::COMPLEX;
-use tables::khmer_table::KHMER;
 
 // Whether a record is its token, which is the next one.
 fn is_whole(khmer: bool, part: usize, x: u32, decompose: u8) -> bool
     ensures { result ≡ is_whole khmer part x decompose }
 {
-    if decompose == 1 {
-        return false;
-    }
-    if is_split_sign(khmer, x) {
-        return false;
-    }
-    part == 0
+    decompose != 1 && !is_split_sign(khmer, x) && part == 0
 }
 
 // The token at a spot. Most records are their token, which is read from the columns as `direct` reads it.
-fn taken_at<'s, 'a>(
-    khmer: bool,
-    mode: Mode,
-    wides: &'s [&'a [u32]; 2],
-    bytes: &'s [&'a [u8]; 15],
-    firsts: &'a [u16],
-    scalars: &[u32],
-    kinds: &[u8],
-    breaks: &[u8],
-    categories: &[u8],
-    emojis: &[u8],
-    selectors: &[u8],
-    decomposes: &[u8],
-    s: Spot,
-) -> Taken
-    requires { Even scalars.now kinds.now breaks.now categories.now emojis.now selectors.now × ((length decomposes.now ≡ length scalars.now) × (s.index < length scalars.now)) }
-    ensures { ReadBy (is_whole khmer s.part (cell scalars.now s.index) (cell decomposes.now s.index)) mode khmer (lent wides.entry bytes.entry firsts.entry) (seen_in scalars.now kinds.now breaks.now categories.now emojis.now selectors.now) s result }
+fn taken_at(khmer: bool, mode: Mode, columns: &Columns, seen: &Seen, s: Spot) -> Taken
+    requires { EvenSeen seen.now × ((length columns.now.decomposes.now ≡ length seen.now.scalars.now) × (s.index < length seen.now.scalars.now)) }
+    ensures { ReadBy (is_whole khmer s.part (cell seen.now.scalars.now s.index) (cell columns.now.decomposes.now s.index)) mode khmer (lent columns.now) (seen_of seen.now) s result }
 {
     let i = s.index;
-    if is_whole(khmer, s.part, scalars[i], decomposes[i]) {
-        let token = token_at(scalars, kinds, breaks, categories, emojis, selectors, i);
+    if is_whole(khmer, s.part, seen.scalars[i], columns.decomposes[i]) {
+        let token = seen.token_at(i);
         let next = Spot {
             index: i + 1,
             part: 0,
         };
         return Taken { token, next };
     }
-    take(mode, khmer, wides, bytes, firsts, s)
+    take(mode, khmer, columns, s)
 }
 
 // Behind a full cluster: in crate mode its last token stays current (SCOPE 6.7).
@@ -84,28 +62,21 @@ fn spot_after(mode: Mode, v: u16, g: Going, s: Spot, next: Spot) -> Spot
     next
 }
 
-fn by_parts<'s, 'a>(
+// A loop of its own and no `Way`: it moves a spot on beside its place, and `by_table` asks a way that does not change.
+fn by_parts(
     khmer: bool,
     mode: Mode,
     tokens: usize,
-    table: &[u16],
-    wides: &'s [&'a [u32]; 2],
-    bytes: &'s [&'a [u8]; 15],
-    firsts: &'a [u16],
+    columns: &Columns,
     oscalars: &mut [u32],
     oclasses: &mut [u8],
     oclusters: &mut [u16],
 ) -> Stand
-    requires { (table.now ≡ table_of (use_parser khmer)) × Apart khmer mode (lent wides bytes firsts) tokens oscalars.old oclasses.old oclusters.old }
-    ensures { Reached (use_parser khmer) mode (split_tokens mode khmer (lent wides.entry bytes.entry firsts.entry)) oscalars oclasses oclusters result }
+    requires { Apart khmer mode (lent columns.now) tokens oscalars.old oclasses.old oclusters.old }
+    ensures { Reached (use_parser khmer) mode (split_tokens mode khmer (lent columns.now)) oscalars oclasses oclusters result }
 {
-    let scalars = wides[0];
-    let kinds = bytes[1];
-    let breaks = bytes[0];
-    let categories = bytes[3];
-    let emojis = bytes[7];
-    let selectors = bytes[9];
-    let decomposes = bytes[10];
+    let seen = Seen::of(columns, columns.uses, columns.cemojis);
+    let table = use_table(khmer);
     let mut g = Going::START;
     let mut s = Spot::START;
     while g.goes_on(tokens) {
@@ -113,13 +84,10 @@ fn by_parts<'s, 'a>(
             g = g.refill(mode);
         } else {
             let row = g.row;
-            let taken = taken_at(
-                khmer, mode, wides, bytes, firsts, scalars, kinds, breaks, categories, emojis,
-                selectors, decomposes, s,
-            );
+            let taken = taken_at(khmer, mode, columns, &seen, s);
             let t = taken.token;
             let x = token::scalar(t);
-            let v = cell(true, table, x, use_index(khmer, t, row), row);
+            let v = cell_at(true, table, x, use_index(khmer, t, row), row);
             if gives_up(v, row) {
                 return g.stand();
             }
@@ -130,66 +98,22 @@ fn by_parts<'s, 'a>(
     g.stand()
 }
 
-// Each names its own table (see `direct`).
-fn complex_parts<'s, 'a>(
-    mode: Mode,
-    tokens: usize,
-    wides: &'s [&'a [u32]; 2],
-    bytes: &'s [&'a [u8]; 15],
-    firsts: &'a [u16],
-    oscalars: &mut [u32],
-    oclasses: &mut [u8],
-    oclusters: &mut [u16],
-) -> Stand
-    requires { Parting Complex mode (lent wides bytes firsts) tokens oscalars.old oclasses.old oclusters.old }
-    ensures { Reached Complex mode (stream_of mode Complex (lent wides.entry bytes.entry firsts.entry)) oscalars oclasses oclusters result }
-{
-    by_parts(
-        false, mode, tokens, &COMPLEX, wides, bytes, firsts, oscalars, oclasses, oclusters,
-    )
-}
-
-fn khmer_parts<'s, 'a>(
-    mode: Mode,
-    tokens: usize,
-    wides: &'s [&'a [u32]; 2],
-    bytes: &'s [&'a [u8]; 15],
-    firsts: &'a [u16],
-    oscalars: &mut [u32],
-    oclasses: &mut [u8],
-    oclusters: &mut [u16],
-) -> Stand
-    requires { Parting Khmer mode (lent wides bytes firsts) tokens oscalars.old oclasses.old oclusters.old }
-    ensures { Reached Khmer mode (stream_of mode Khmer (lent wides.entry bytes.entry firsts.entry)) oscalars oclasses oclusters result }
-{
-    by_parts(
-        true, mode, tokens, &KHMER, wides, bytes, firsts, oscalars, oclasses, oclusters,
-    )
-}
-
 // A run over a text of so many tokens, all regular, as far as the table goes: of simple and Myanmar the records are the tokens.
-pub(crate) fn parted<'s, 'a>(
+pub(crate) fn parted(
     parser: Parser,
     mode: Mode,
     tokens: usize,
-    wides: &'s [&'a [u32]; 2],
-    bytes: &'s [&'a [u8]; 15],
-    firsts: &'a [u16],
+    columns: &Columns,
     oscalars: &mut [u32],
     oclasses: &mut [u8],
     oclusters: &mut [u16],
 ) -> Stand
-    requires { Parting parser mode (lent wides bytes firsts) tokens oscalars.old oclasses.old oclusters.old }
-    ensures { Reached parser mode (stream_of mode parser (lent wides.entry bytes.entry firsts.entry)) oscalars oclasses oclusters result }
+    requires { Parting parser mode (lent columns.now) tokens oscalars.old oclasses.old oclusters.old }
+    ensures { Reached parser mode (stream_of mode parser (lent columns.now)) oscalars oclasses oclusters result }
 {
     match parser {
-        Parser::Simple => Stand::START,
-        Parser::Myanmar => Stand::START,
-        Parser::Complex => complex_parts(
-            mode, tokens, wides, bytes, firsts, oscalars, oclasses, oclusters,
-        ),
-        Parser::Khmer => khmer_parts(
-            mode, tokens, wides, bytes, firsts, oscalars, oclasses, oclusters,
-        ),
+        Parser::Simple | Parser::Myanmar => Stand::START,
+        Parser::Complex => { by_parts(false, mode, tokens, columns, oscalars, oclasses, oclusters) }
+        Parser::Khmer => by_parts(true, mode, tokens, columns, oscalars, oclasses, oclusters),
     }
 }

@@ -1,53 +1,42 @@
-// The loop over a table on an array of tokens: the complex parser, where a record or a part is odd that gives no token.
-ghost use Rattle.std.specs.Prelude.{◌≡◌};
-ghost use Rattle.records.specs.declared.Parser.TheVariants.{Complex, Khmer};
-ghost use Rattle.tables.specs.Symbols.{table_of, Regular};
+// The way to the cells of an array of tokens: the complex parser, where a record or a part is odd that gives no token.
 ghost use Rattle.segment.specs.Inner.{Roomy};
 ghost use Rattle.segment.specs.Seen.{use_parser};
 ghost use Rattle.segment.specs.Standing.{Reached, Stands, Onward};
 
-use crate::direct::use_index;
-use crate::going::{Going, Stand, cell, gives_up};
+use crate::direct::{use_index, use_table};
+use crate::going::{Going, Look, Stand, cell_at};
 use crate::regular::all_regular;
+use crate::way::{Way, by_table};
 use classes::Mode;
 use records::Parser;
-use tables::complex_table::COMPLEX;
-use tables::khmer_table::KHMER;
 
-fn by_tokens(
-    khmer: bool,
-    mode: Mode,
-    table: &[u16],
-    text: &[u64],
-    oscalars: &mut [u32],
-    oclasses: &mut [u8],
-    oclusters: &mut [u16],
-) -> Stand
-    requires { (table.now ≡ table_of (use_parser khmer)) × (Regular (use_parser khmer) text.now × Roomy text.now oscalars.old oclasses.old oclusters.old) }
-    ensures { Reached (use_parser khmer) mode text.now oscalars oclasses oclusters result }
-{
-    let n = text.len();
-    let mut g = Going::START;
-    while g.goes_on(n) {
-        if g.is_full() {
-            g = g.refill(mode);
-        } else {
-            let i = g.at;
-            let row = g.row;
-            let t = text[i];
-            let x = token::scalar(t);
-            let v = cell(true, table, x, use_index(khmer, t, row), row);
-            if gives_up(v, row) {
-                return g.stand();
-            }
-            g = g.turn(v, x, oscalars, oclasses, oclusters);
-        }
-    }
-    g.stand()
+#[derive(Clone, Copy)]
+struct ByTokens<'a, const KHMER: bool> {
+    text: &'a [u64],
 }
 
-// Each names its own table (see `direct`). A text that is not regular is left to the calls whole.
-fn complex_tokens(
+impl<const KHMER: bool> Way for ByTokens<'_, KHMER> {
+    ghost parser = { λ w. use_parser KHMER };
+
+    ghost tokens = { λ w. w.text.now };
+
+    ghost ready = { λ w. Unit {0} };
+
+    fn count(&self) -> usize {
+        self.text.len()
+    }
+
+    fn look(&self, mode: Mode, g: Going) -> Look {
+        let t = self.text[g.at];
+        let scalar = token::scalar(t);
+        let index = use_index(KHMER, t, g.row);
+        let cell = cell_at(true, use_table(KHMER), scalar, index, g.row);
+        Look { cell, scalar }
+    }
+}
+
+// A text that is not regular is left to the calls whole.
+fn by_tokens<const KHMER: bool>(
     mode: Mode,
     text: &[u64],
     oscalars: &mut [u32],
@@ -55,26 +44,11 @@ fn complex_tokens(
     oclusters: &mut [u16],
 ) -> Stand
     requires { Roomy text.now oscalars.old oclasses.old oclusters.old }
-    ensures { Reached Complex mode text.now oscalars oclasses oclusters result }
+    ensures { Reached (use_parser KHMER) mode text.now oscalars oclasses oclusters result }
 {
-    if all_regular(false, text) {
-        return by_tokens(false, mode, &COMPLEX, text, oscalars, oclasses, oclusters);
-    }
-    Stand::START
-}
-
-fn khmer_tokens(
-    mode: Mode,
-    text: &[u64],
-    oscalars: &mut [u32],
-    oclasses: &mut [u8],
-    oclusters: &mut [u16],
-) -> Stand
-    requires { Roomy text.now oscalars.old oclasses.old oclusters.old }
-    ensures { Reached Khmer mode text.now oscalars oclasses oclusters result }
-{
-    if all_regular(true, text) {
-        return by_tokens(true, mode, &KHMER, text, oscalars, oclasses, oclusters);
+    if all_regular(KHMER, text) {
+        let way = ByTokens::<KHMER> { text };
+        return by_table(&way, mode, oscalars, oclasses, oclusters);
     }
     Stand::START
 }
@@ -97,9 +71,8 @@ pub(crate) fn tabled(
         return from;
     }
     match parser {
-        Parser::Simple => from,
-        Parser::Myanmar => from,
-        Parser::Complex => complex_tokens(mode, text, oscalars, oclasses, oclusters),
-        Parser::Khmer => khmer_tokens(mode, text, oscalars, oclasses, oclusters),
+        Parser::Simple | Parser::Myanmar => from,
+        Parser::Complex => by_tokens::<false>(mode, text, oscalars, oclasses, oclusters),
+        Parser::Khmer => by_tokens::<true>(mode, text, oscalars, oclasses, oclusters),
     }
 }

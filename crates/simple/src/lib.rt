@@ -1,6 +1,6 @@
 // The simple parser, src/text/cluster/simple.rs: grapheme clusters by the cluster break. A text is tokens whose kind is their cluster
 // break, and a call is begun with `joins` false, since U+034F is nothing special here. Functions and arms in the order of the Rust.
-#![tactic(auto)]
+#![tactic(auto, unfolding(parse::specs::Rule::run, crate::specs::Grammar::start, crate::specs::Grammar::control, crate::specs::Grammar::syllable, crate::specs::Grammar::leading, crate::specs::Grammar::vowel, crate::specs::Grammar::trailing, crate::specs::Grammar::other, crate::specs::Grammar::is_extension, crate::specs::Grammar::extension, crate::specs::Grammar::extend, crate::specs::Grammar::combining))]
 
 ghost use Rattle.std.specs.Prelude.{◌≡◌};
 ghost use Rattle.parse.specs.Rule.{run, holds, while};
@@ -25,9 +25,10 @@ fn parse_start(s: Parse, text: &[u64]) -> Parse
     ensures { result ≡ run start text.now s }
 {
     if s.emoji(text) {
-        return s.parse_emoji(text);
+        s.parse_emoji(text)
+    } else {
+        parse_control(s, text)
     }
-    parse_control(s, text)
 }
 
 fn parse_control(mut s: Parse, text: &[u64]) -> Parse
@@ -35,18 +36,14 @@ fn parse_control(mut s: Parse, text: &[u64]) -> Parse
 {
     if s.kind_is(text, CN) {
         s = s.accept_any_as(text, Shape::Control);
-        return s;
-    }
-    if s.kind_is(text, LF) {
+    } else if s.kind_is(text, LF) {
         s = s.parse_newline(text);
-        return s;
-    }
-    if s.kind_is(text, CR) {
+    } else if s.kind_is(text, CR) {
         s = s.parse_newline_with(text, LF);
         s = s.accept_as(text, LF, Shape::Control);
-        return s;
+    } else {
+        s = parse_syllable(s, text);
     }
-    s = parse_syllable(s, text);
     s
 }
 
@@ -54,33 +51,32 @@ fn parse_syllable(s: Parse, text: &[u64]) -> Parse
     ensures { result ≡ run syllable text.now s }
 {
     if s.kind_is(text, L) {
-        return parse_leading(s, text);
+        parse_leading(s, text)
+    } else if s.kind_in(text, [LV, V]) {
+        parse_vowel(s, text)
+    } else if s.kind_in(text, [LVT, T]) {
+        parse_trailing(s, text)
+    } else {
+        parse_other(s, text)
     }
-    if s.kind_in2(text, LV, V) {
-        return parse_vowel(s, text);
-    }
-    if s.kind_in2(text, LVT, T) {
-        return parse_trailing(s, text);
-    }
-    parse_other(s, text)
 }
 
-fn parse_leading(s: Parse, text: &[u64]) -> Parse
+fn parse_leading(mut s: Parse, text: &[u64]) -> Parse
     ensures { result ≡ run leading text.now s }
 {
-    let s = s.accept_any_as(text, Shape::Base);
-    if s.kind_in4(text, L, V, LV, LVT) {
-        return s.accept_any_as(text, Shape::Base);
+    s = s.accept_any_as(text, Shape::Base);
+    if s.kind_in(text, [L, V, LV, LVT]) {
+        s = s.accept_any_as(text, Shape::Base);
     }
     s
 }
 
-fn parse_vowel(s: Parse, text: &[u64]) -> Parse
+fn parse_vowel(mut s: Parse, text: &[u64]) -> Parse
     ensures { result ≡ run vowel text.now s }
 {
-    let s = s.accept_any_as(text, Shape::Base);
-    if s.kind_in2(text, V, T) {
-        return s.accept_any_as(text, Shape::Base);
+    s = s.accept_any_as(text, Shape::Base);
+    if s.kind_in(text, [V, T]) {
+        s = s.accept_any_as(text, Shape::Base);
     }
     s
 }
@@ -96,24 +92,23 @@ fn parse_other(s: Parse, text: &[u64]) -> Parse
     ensures { result ≡ run other text.now s }
 {
     if s.kind_is(text, RI) {
-        return s.accept_as(text, RI, Shape::Base);
+        s.accept_as(text, RI, Shape::Base)
+    } else if is_extension(s, text) {
+        s.set_broken(text)
+    } else {
+        s.set_space_from_char(text).accept_any_as(text, Shape::Base)
     }
-    if is_extension(s, text) {
-        return s.set_broken(text);
-    }
-    s.set_space_from_char(text).accept_any_as(text, Shape::Base)
 }
 
 fn is_extension(s: Parse, text: &[u64]) -> bool
     ensures { result ≡ holds text.now is_extension s }
 {
-    s.kind_in3(text, EX, SM, ZWJ)
+    s.kind_in(text, [EX, SM, ZWJ])
 }
 
-fn parse_extensions(s: Parse, text: &[u64]) -> Parse
+fn parse_extensions(mut s: Parse, text: &[u64]) -> Parse
     ensures { result ≡ run (while is_extension extension) text.now s }
 {
-    let mut s = s;
     while is_extension(s, text) {
         s = parse_extension(s, text);
     }
@@ -124,24 +119,24 @@ fn parse_extension(s: Parse, text: &[u64]) -> Parse
     ensures { result ≡ run extension text.now s }
 {
     if s.kind_is(text, EX) {
-        return parse_extend(s, text);
+        parse_extend(s, text)
+    } else if s.kind_is(text, SM) {
+        parse_combining(s, text)
+    } else {
+        s.accept_any_as(text, Shape::Zwj)
     }
-    if s.kind_is(text, SM) {
-        return parse_combining(s, text);
-    }
-    s.accept_any_as(text, Shape::Zwj)
 }
 
 fn parse_extend(s: Parse, text: &[u64]) -> Parse
     ensures { result ≡ run extend text.now s }
 {
     if s.scalar_is(text, ZWNJ) {
-        return s.accept_any_as(text, Shape::Zwnj);
+        s.accept_any_as(text, Shape::Zwnj)
+    } else if s.selector(text) {
+        s.accept_any_as(text, Shape::Vs)
+    } else {
+        parse_combining(s, text)
     }
-    if s.selector(text) {
-        return s.accept_any_as(text, Shape::Vs);
-    }
-    parse_combining(s, text)
 }
 
 fn parse_combining(s: Parse, text: &[u64]) -> Parse

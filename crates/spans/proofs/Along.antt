@@ -8,8 +8,6 @@ use lib.ListN.{length, take, drop, set, get_or, replicate, length-set, drop_of_l
 use lib.Seq.{sets, drop-cons, length-take-le}
 use Rattle.basics.proofs.Choices.{eq_then, eq_else}
 use Rattle.stream.specs.Stream.{most_tokens}
-use Rattle.token.specs.Token.{index_of}
-use Rattle.records.proofs.Any.{past_end}
 use Rattle.parse.specs.declared.Pushed.{Pushed}
 use Rattle.parse.specs.State.{nothing}
 use Rattle.segment.proofs.Written.{write_all}
@@ -73,14 +71,6 @@ kept_cell zero j l d h = absurd (omega arith)
 kept_cell (suc n) j [] d h = refl
 kept_cell (suc n) zero (x ∷ l) d h = refl
 kept_cell (suc n) (suc j) (x ∷ l) d h = kept_cell n j l d (omega arith)
-
--- the first character's record
-pub first_some : (n : ℕ) (chars : List Pushed) → (n ≡ 0 → ⊥) → (get_or chars 0 nothing).index ≡ (get_or (take n chars) 0 nothing).index
-first_some n chars some = ap (λ (x : Pushed). x.index) (sym (kept_cell n 0 chars nothing (omega arith)))
-
--- past the end of the tokens
-pub past_none : (stream : List ℕ) (p : ℕ) → length stream ≤ p → 0 ≡ index_of (get_or stream p 0)
-past_none stream p h = ap index_of (past_end stream p h)
 
 -- where the spans of j of the first characters are in their cells, and the next one begins at a place
 pub record Walked (scalars stream : List ℕ) (at len : ℕ) (cs : List Pushed) (from : Counted) (chars : List Span) (end place j : ℕ) : Type 0 where

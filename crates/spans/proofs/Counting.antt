@@ -1,6 +1,6 @@
 -- Counting bytes along the records: how many they can be, and that the offsets rise. Assumes nothing.
 use Prim.Native.Nat.{ℕ, zero, suc, ◌+◌, ◌*◌, ◌<◌, ◌≤◌}
-use mathlib.Core.Path.{◌≡◌, refl, sym, ◌∙◌, ap, subst}
+use mathlib.Core.Path.{◌≡◌, refl, sym, ap, subst}
 use mathlib.Core.Bool.{Bool, true, false, cond}
 use mathlib.Core.List.{List}
 use native.Mathlib.Omega.{arith}
@@ -60,6 +60,3 @@ module _ (scalars : List ℕ) where
   -- all of them
   pub to_over : (index i b : ℕ) → i ≤ index → index ≤ i → b ≡ offset_of scalars i → ◌≡◌ {A = Counted} (record { index = index; bytes = b }) (record { index = index; bytes = offset_of scalars index })
   to_over index i b l h e = let q : i ≡ index = omega arith in rw (e, q)
-
-pub length_by : (scalars : List ℕ) (i x r : ℕ) → r ≡ bytes_of x → x ≡ cell scalars i → r ≡ bytes_of (cell scalars i)
-length_by scalars i x r e f = e ∙ ap bytes_of f

@@ -1,4 +1,5 @@
 -- The sentences of SCOPE 12.7 as theorems, over the public answers. Assumes nothing.
+use Rattle.std.specs.Prelude.{Ok, Err}
 use Prim.Native.Nat.{ℕ, zero, suc, ◌+◌, ◌-◌, ◌<◌, ◌≤◌, min}
 use mathlib.Core.Path.{◌≡◌, refl, sym, ◌∙◌, ap, subst}
 use mathlib.Core.Bool.{Bool, true, false, cond}
@@ -17,8 +18,7 @@ use Rattle.records.specs.Offences.{table_of, ByTable, Asks}
 use Rattle.records.specs.declared.Parser.{Parser}
 use Rattle.records.specs.declared.Side.TheVariants.{Neither}
 use Rattle.records.specs.declared.Refusal.{Refusal}
-use Rattle.records.specs.declared.Verdict.{Verdict}
-use Rattle.records.specs.declared.Verdict.TheVariants.{Accepted, Refused}
+use Rattle.records.specs.Verdict.{Verdict}
 use Rattle.records.proofs.Unique.{unique}
 use Rattle.records.proofs.Tables.{first_line}
 use Rattle.records.proofs.Judged.{alone, call_by_table}
@@ -70,7 +70,7 @@ take_fewer (suc n) zero l h = absurd (omega arith)
 take_fewer (suc n) (suc m) [] h = refl
 take_fewer (suc n) (suc m) (x ∷ l) h = ap (λ xs. x ∷ xs) (take_fewer n m l (omega arith))
 
-module _ (parser : Parser) (mode : Mode) (t : Text) (accepted : verdict parser t ≡ Accepted) where
+module _ (parser : Parser) (mode : Mode) (t : Text) (accepted : verdict parser t ≡ Ok tt) where
   abbrev stream : List ℕ
   stream = stream_of mode parser t
 
@@ -287,7 +287,7 @@ unfolding spanned empty_cluster
 step_none s t h = sym (none_spanned t.records.scalars (tokens s t) s.place.at (next_of s t).cluster (ap (λ (c : Cluster). c.len) (step_keeps s t h).2))
 
 -- a call on a token of an accepted text
-module _ (s : Segmenter) (t : Text) (accepted : verdict s.parser t ≡ Accepted) (inside : s.place.at < length (tokens s t)) where
+module _ (s : Segmenter) (t : Text) (accepted : verdict s.parser t ≡ Ok tt) (inside : s.place.at < length (tokens s t)) where
   abbrev here : List ℕ
   here = t.records.scalars
 
@@ -321,13 +321,13 @@ module _ (parser : Parser) (mode : Mode) (t : Text) (scalars classes clusters : 
       call_by_table _ parser t (room_line parser mode t room ∷ []) (record { before = refl; parts = λ i. refl; records = λ i. refl; after = refl })
       r.verdict ran_lines
 
-  pub run_keeps : (q : Refusal) → r.verdict ≡ Refused q → (cells' ≡ cells) × ((scalars' ≡ scalars) × ((classes' ≡ classes) × (clusters' ≡ clusters)))
+  pub run_keeps : (q : Refusal) → r.verdict ≡ Err q → (cells' ≡ cells) × ((scalars' ≡ scalars) × ((classes' ≡ classes) × (clusters' ≡ clusters)))
   run_keeps q h = go (run_verdict parser mode t room) (sym ran_verdict ∙ h) ran.left ran.base
     where
-      go : (v : Verdict) → v ≡ Refused q → cells' ≡ lefts v (columns_of t.records.scalars (stream_of mode parser t) 0 (calls_of parser mode (stream_of mode parser t))) cells →
+      go : (v : Verdict) → v ≡ Err q → cells' ≡ lefts v (columns_of t.records.scalars (stream_of mode parser t) 0 (calls_of parser mode (stream_of mode parser t))) cells →
           Ran v (calls_of parser mode (stream_of mode parser t)) scalars classes clusters r scalars' classes' clusters' → (cells' ≡ cells) × ((scalars' ≡ scalars) × ((classes' ≡ classes) × (clusters' ≡ clusters)))
-      go Accepted e l w = absurd (let z : ◌≡◌ {A = ℕ} 0 1 = cc in omega arith)
-      go (Refused p) e l w = (l, (w.scalar, (w.class, w.cluster)))
+      go (Ok _) e l w = absurd (let z : ◌≡◌ {A = ℕ} 0 1 = cc in omega arith)
+      go (Err p) e l w = (l, (w.scalar, (w.class, w.cluster)))
 
 -- No two results fulfil these contracts (SCOPE 10).
 pub step_unique : (s : Segmenter) (t : Text) (a b : SpanAnswer) → a ≡ spanned s t → b ≡ spanned s t → a ≡ b

@@ -1,4 +1,5 @@
 -- The six columns under way: what is written, and what is still to be. Assumes nothing.
+use Rattle.std.specs.Prelude.{Ok}
 use Prim.Native.Nat.{ℕ, suc, ◌+◌, ◌-◌, ◌*◌, ◌<◌, ◌≤◌}
 use mathlib.Core.Path.{◌≡◌, refl, sym, ◌∙◌, ap, subst}
 use mathlib.Core.List.{List, [], ◌∷◌, ◌++◌, map, map-append}
@@ -8,7 +9,6 @@ use lib.ListN.{length, take, drop, set, replicate, length-map, length-append, le
 use lib.Seq.{sets, length-sets, take_at}
 use Rattle.classes.specs.declared.Mode.{Mode}
 use Rattle.records.specs.declared.Parser.{Parser}
-use Rattle.records.specs.declared.Verdict.TheVariants.{Accepted}
 use Rattle.parse.specs.declared.Parse.{Parse}
 use Rattle.parse.specs.State.{place_of, cluster_of}
 use Rattle.parse.specs.Cover.{pushed, characters_of}
@@ -225,7 +225,7 @@ module _ (parser : Parser) (mode : Mode) (scalars stream : List ℕ) where
           let t₃ : After r first (place_of stream p) p.len o l m n = subst (λ (i : ℕ). After r i (place_of stream p) p.len o l m n) (sym ef) t₂ in
           subst (λ (i : ℕ). After r first i p.len o l m n) (sym ea) t₃
 
-    pub fill_over : length stream ≤ at → cells ≡ lefts Accepted (columns_of scalars stream 0 (calls_of parser mode stream)) cells₀
+    pub fill_over : length stream ≤ at → cells ≡ lefts (Ok tt) (columns_of scalars stream 0 (calls_of parser mode stream)) cells₀
     unfolding spans_in starts_in ends_in
     fill_over h =
         let none : calls_at parser mode stream at ≡ [] = calls_end parser mode stream short at h in
@@ -239,13 +239,3 @@ module _ (parser : Parser) (mode : Mode) (scalars stream : List ℕ) where
         (under_over cells₀.nlengths (map nlength_in (spans_left 0)) cells.nlengths w _ (left nlength_in) (omega (arith, wide nlength_in, roomy.room)) s.nlength)
         (under_over cells₀.starts (starts_left 0) cells.starts k _ (ap (starts_in scalars) none) (omega (arith, starts_length (calls_of parser mode stream), many, roomy.room)) s.start)
         (under_over cells₀.ends (ends_left 0) cells.ends k _ (ap (ends_in scalars stream at) none) (omega (arith, ends_length 0 (calls_of parser mode stream), many, roomy.room)) s.end)
-
--- the same over an array that holds the stream
-pub roomy_by : (stream cells : List ℕ) (c : Columns) → cells ≡ stream → Roomy stream c → Roomy cells c
-roomy_by stream cells c e r = subst (λ l. Roomy l c) (sym e) r
-
-pub filled_by : (parser : Parser) (mode : Mode) (scalars stream cells : List ℕ) (o l m n s e : List ℕ) (c : Columns) → cells ≡ stream →
-    c ≡ lefts Accepted (columns_of scalars cells 0 (calls_of parser mode cells)) (record { offsets = o; lengths = l; noffsets = m; nlengths = n; starts = s; ends = e }) →
-    c ≡ lefts Accepted (columns_of scalars stream 0 (calls_of parser mode stream)) (record { offsets = o; lengths = l; noffsets = m; nlengths = n; starts = s; ends = e })
-filled_by parser mode scalars stream cells o l m n s e c h f =
-    subst (λ k. c ≡ lefts Accepted (columns_of scalars k 0 (calls_of parser mode k)) (record { offsets = o; lengths = l; noffsets = m; nlengths = n; starts = s; ends = e })) h f

@@ -1,4 +1,5 @@
 -- How a full run with spans comes out: refused for the six columns, or segment's own run and the columns filled. Assumes nothing.
+use Rattle.std.specs.Prelude.{Ok, Err}
 use Prim.Native.Nat.{ℕ, ◌*◌, ◌/◌, ◌<◌, ◌≤◌, min}
 use mathlib.Core.Path.{◌≡◌, refl, sym, ◌∙◌, ap, subst}
 use mathlib.Core.Bool.{true}
@@ -13,9 +14,7 @@ use Rattle.records.specs.Text.{Text}
 use Rattle.records.specs.Refusals.{◌⊳◌, refusal, refuse, verdict}
 use Rattle.records.specs.declared.Parser.{Parser}
 use Rattle.records.specs.declared.Side.TheVariants.{Neither}
-use Rattle.records.specs.declared.Refusal.{Refusal}
-use Rattle.records.specs.declared.Verdict.{Verdict}
-use Rattle.records.specs.declared.Verdict.TheVariants.{Accepted, Refused}
+use Rattle.records.specs.Verdict.{Verdict}
 use Rattle.stream.specs.Stream.{stream_of, most_tokens}
 use Rattle.parse.specs.declared.Parse.{Parse}
 use Rattle.segment.specs.declared.RunAnswer.{RunAnswer}
@@ -24,17 +23,6 @@ use Rattle.segment.specs.Inner.{Streamed, token_count}
 use Rattle.segment.proofs.CallLaws.{streamed, counted}
 use Rattle.spans.specs.Runs.{Columns, columns_of, lefts, shortest_of, span_verdict, spans_in, starts_in, ends_in, RanSpans}
 use Rattle.spans.specs.Inner.{RoomyIn}
-
--- the shortest of six
-pub shortest_is : (a b c d e f p q r s t : ℕ) → p ≡ min e f → q ≡ min d p → r ≡ min c q → s ≡ min b r → t ≡ min a s → t ≡ min a (min b (min c (min d (min e f))))
-shortest_is a b c d e f p q r s t ep eq er es et = rw (et, es, er, eq, ep)
-
--- the refusal where the six columns are too short: 9, or the check's own
-pub crowded_room : (v w : Verdict) (r : RunAnswer) → v ≡ w → v ≡ Accepted → r ≡ record { verdict = Refused (refusal 9 Neither 0); clusters = 0; characters = 0 } → r ≡ run_under (w ⊳ Refused (refusal 9 Neither 0)) []
-crowded_room v w r e a h = rw (← e, a) h
-
-pub crowded_check : (v w : Verdict) (q : Refusal) (r : RunAnswer) → v ≡ w → v ≡ Refused q → r ≡ record { verdict = Refused q; clusters = 0; characters = 0 } → r ≡ run_under (w ⊳ Refused (refusal 9 Neither 0)) []
-crowded_check v w q r e a h = rw (← e, a) h
 
 none_left : (calls : List Parse) → length calls ≡ 0 → calls ≡ []
 none_left [] e = refl
@@ -62,27 +50,27 @@ module _ (parser : Parser) (mode : Mode) (t : Text) (scalars classes clusters o 
   abbrev v : Verdict
   v = span_verdict parser mode t scalars classes clusters cells
 
-  number : verdict parser t ≡ Accepted → count ≡ length stream
+  number : verdict parser t ≡ Ok tt → count ≡ length stream
   number ok = tokens ∙ counted mode parser t (streamed mode parser t ok).few
 
   -- Where the six columns are too short, the check refuses or 9 does.
-  crowds : room / 2 < count → v ≡ verdict parser t ⊳ Refused (refusal 9 Neither 0)
+  crowds : room / 2 < count → v ≡ verdict parser t ⊳ Err (refusal 9 Neither 0)
   unfolding run_verdict
   crowds h = go (verdict parser t) refl
     where
-      go : (w : Verdict) → verdict parser t ≡ w → w ⊳ room_for (length stream) (min (shortest scalars classes clusters) (shortest_of cells)) ≡ w ⊳ Refused (refusal 9 Neither 0)
-      go (Refused q) ok = refl
-      go Accepted ok = let k : ltb (min (shortest scalars classes clusters) (shortest_of cells)) (2 * length stream) ≡ true = lt-ltb (min (shortest scalars classes clusters) (shortest_of cells)) (2 * length stream) (less_min (shortest scalars classes clusters) (shortest_of cells) (2 * length stream) (subst (λ (b : ℕ). b < 2 * length stream) roomed (half_less room count (length stream) h (number ok)))) in rw k
+      go : (w : Verdict) → verdict parser t ≡ w → w ⊳ room_for (length stream) (min (shortest scalars classes clusters) (shortest_of cells)) ≡ w ⊳ Err (refusal 9 Neither 0)
+      go (Err q) ok = refl
+      go (Ok _) ok = let k : ltb (min (shortest scalars classes clusters) (shortest_of cells)) (2 * length stream) ≡ true = lt-ltb (min (shortest scalars classes clusters) (shortest_of cells)) (2 * length stream) (less_min (shortest scalars classes clusters) (shortest_of cells) (2 * length stream) (subst (λ (b : ℕ). b < 2 * length stream) roomed (half_less room count (length stream) h (number ok)))) in rw k
 
-  pub ran_crowded : room / 2 < count → (r : RunAnswer) → r ≡ run_under (verdict parser t ⊳ Refused (refusal 9 Neither 0)) [] → RanSpans parser mode t scalars classes clusters cells r scalars classes clusters cells
+  pub ran_crowded : room / 2 < count → (r : RunAnswer) → r ≡ run_under (verdict parser t ⊳ Err (refusal 9 Neither 0)) [] → RanSpans parser mode t scalars classes clusters cells r scalars classes clusters cells
   ran_crowded h r er = record { base = (go (verdict parser t) v (crowds h) er).0; left = (go (verdict parser t) v (crowds h) er).1 }
     where
-      go : (w u : Verdict) → u ≡ w ⊳ Refused (refusal 9 Neither 0) → r ≡ run_under (w ⊳ Refused (refusal 9 Neither 0)) [] → Ran u calls scalars classes clusters r scalars classes clusters × (cells ≡ lefts u (columns_of t.records.scalars stream 0 calls) cells)
-      go Accepted u eu er = rw eu (record { answer = er; scalar = refl; class = refl; cluster = refl }, refl)
-      go (Refused q) u eu er = rw eu (record { answer = er; scalar = refl; class = refl; cluster = refl }, refl)
+      go : (w u : Verdict) → u ≡ w ⊳ Err (refusal 9 Neither 0) → r ≡ run_under (w ⊳ Err (refusal 9 Neither 0)) [] → Ran u calls scalars classes clusters r scalars classes clusters × (cells ≡ lefts u (columns_of t.records.scalars stream 0 calls) cells)
+      go (Ok _) u eu er = rw eu (record { answer = er; scalar = refl; class = refl; cluster = refl }, refl)
+      go (Err q) u eu er = rw eu (record { answer = er; scalar = refl; class = refl; cluster = refl }, refl)
 
   -- Else the run is segment's own.
-  enough : verdict parser t ≡ Accepted → count ≤ room / 2 → 2 * length stream ≤ shortest_of cells
+  enough : verdict parser t ≡ Ok tt → count ≤ room / 2 → 2 * length stream ≤ shortest_of cells
   enough ok h = subst (λ (b : ℕ). 2 * length stream ≤ b) roomed (half_enough room count (length stream) h (number ok))
 
   suffices : count ≤ room / 2 → v ≡ run_verdict parser mode t (shortest scalars classes clusters)
@@ -95,8 +83,8 @@ module _ (parser : Parser) (mode : Mode) (t : Text) (scalars classes clusters o 
           (λ z. le-ltb (min a b) m (omega (arith, ltb-false a m z)) ∙ sym z)
 
       go : (w : Verdict) → verdict parser t ≡ w → w ⊳ room_for (length stream) (min (shortest scalars classes clusters) (shortest_of cells)) ≡ w ⊳ room_for (length stream) (shortest scalars classes clusters)
-      go (Refused q) ok = refl
-      go Accepted ok = ap (λ b. refuse b 9 Neither 0) (same (shortest scalars classes clusters) (shortest_of cells) (2 * length stream) (enough ok h))
+      go (Err q) ok = refl
+      go (Ok _) ok = ap (λ b. refuse b 9 Neither 0) (same (shortest scalars classes clusters) (shortest_of cells) (2 * length stream) (enough ok h))
 
   module _ (h : count ≤ room / 2) (r : RunAnswer) (scalars' classes' clusters' : List ℕ) (ran : RanOf parser mode t scalars classes clusters r scalars' classes' clusters') where
     base_is : Ran v calls scalars classes clusters r scalars' classes' clusters'
@@ -107,33 +95,33 @@ module _ (parser : Parser) (mode : Mode) (t : Text) (scalars classes clusters o 
     unfolding spans_in starts_in ends_in
     ran_none z = record { base = base_is; left = go v base_is }
       where
-        empty : calls ≡ [] → cells ≡ lefts Accepted (columns_of t.records.scalars stream 0 calls) cells
-        empty z = subst (λ ps. cells ≡ lefts Accepted (columns_of t.records.scalars stream 0 ps) cells) (sym z) refl
+        empty : calls ≡ [] → cells ≡ lefts (Ok tt) (columns_of t.records.scalars stream 0 calls) cells
+        empty z = subst (λ ps. cells ≡ lefts (Ok tt) (columns_of t.records.scalars stream 0 ps) cells) (sym z) refl
 
         go : (u : Verdict) → Ran u calls scalars classes clusters r scalars' classes' clusters' → cells ≡ lefts u (columns_of t.records.scalars stream 0 calls) cells
-        go (Refused q) w = refl
-        go Accepted w = empty (none_left calls (sym (ap (λ (a : RunAnswer). a.clusters) w.answer) ∙ z))
+        go (Err q) w = refl
+        go (Ok _) w = empty (none_left calls (sym (ap (λ (a : RunAnswer). a.clusters) w.answer) ∙ z))
 
-    is_accepted : (r.clusters ≡ 0 → ⊥) → v ≡ Accepted
+    is_accepted : (r.clusters ≡ 0 → ⊥) → v ≡ Ok tt
     is_accepted z = go v base_is refl
       where
-        go : (u : Verdict) → Ran u calls scalars classes clusters r scalars' classes' clusters' → v ≡ u → v ≡ Accepted
-        go Accepted w k = k
-        go (Refused q) w k = absurd (z (ap (λ (a : RunAnswer). a.clusters) w.answer))
+        go : (u : Verdict) → Ran u calls scalars classes clusters r scalars' classes' clusters' → v ≡ u → v ≡ Ok tt
+        go (Ok _) w k = k
+        go (Err q) w k = absurd (z (ap (λ (a : RunAnswer). a.clusters) w.answer))
 
-    check_accepted : v ≡ Accepted → verdict parser t ≡ Accepted
+    check_accepted : v ≡ Ok tt → verdict parser t ≡ Ok tt
     unfolding run_verdict
     check_accepted ok = go (verdict parser t) refl ok
       where
-        go : (w : Verdict) → verdict parser t ≡ w → w ⊳ room_for (length stream) (min (shortest scalars classes clusters) (shortest_of cells)) ≡ Accepted → verdict parser t ≡ Accepted
-        go Accepted q k = q
-        go (Refused x) q k = absurd (let z : ◌≡◌ {A = ℕ} 0 1 = cc in omega arith)
+        go : (w : Verdict) → verdict parser t ≡ w → w ⊳ room_for (length stream) (min (shortest scalars classes clusters) (shortest_of cells)) ≡ Ok tt → verdict parser t ≡ Ok tt
+        go (Ok _) q k = q
+        go (Err x) q k = absurd (let z : ◌≡◌ {A = ℕ} 0 1 = cc in omega arith)
 
     pub ran_roomy : (r.clusters ≡ 0 → ⊥) → RoomyIn parser mode t most_tokens cells
     ran_roomy z =
-        let ok : verdict parser t ≡ Accepted = check_accepted (is_accepted z) in
+        let ok : verdict parser t ≡ (Ok tt) = check_accepted (is_accepted z) in
         let held : Streamed mode parser t = streamed mode parser t ok in
         record { streamed = held; fits = held.room; roomy = record { short = held.room; room = enough ok h } }
 
-    pub ran_filled : (r.clusters ≡ 0 → ⊥) → (cells' : Columns) → cells' ≡ lefts Accepted (columns_of t.records.scalars stream 0 calls) cells → RanSpans parser mode t scalars classes clusters cells r scalars' classes' clusters' cells'
+    pub ran_filled : (r.clusters ≡ 0 → ⊥) → (cells' : Columns) → cells' ≡ lefts (Ok tt) (columns_of t.records.scalars stream 0 calls) cells → RanSpans parser mode t scalars classes clusters cells r scalars' classes' clusters' cells'
     ran_filled z cells' f = record { base = base_is; left = f ∙ ap (λ (u : Verdict). lefts u (columns_of t.records.scalars stream 0 calls) cells) (sym (is_accepted z)) }

@@ -47,10 +47,6 @@ some_spannable s t a e n = subst (λ (b : Answer). Spannable s t b.cluster most_
           near = omega (arith, held.room);
         })
 
--- the same over an array that holds the stream
-pub spans_by : (scalars stream cells : List ℕ) (at : ℕ) (c : Cluster) (r : Spans) → cells ≡ stream → r ≡ spans_of scalars cells at c → r ≡ spans_of scalars stream at c
-spans_by scalars stream cells at c r e h = h ∙ ap (λ l. spans_of scalars l at c) e
-
 -- the answer and the spans beside it
 module _ (s : Segmenter) (t : Text) (a : Answer) (e : a ≡ next_of s t) where
   pub spanned_some : (r : Spans) → SpansAt s t a.cluster r → record { answer = a; spans = r } ≡ spanned s t

@@ -1,10 +1,9 @@
 -- What only private contracts need: bytes counted along the records, and columns under way.
-use Rattle.std.specs.Prelude.{ℕ, ◌+◌, ◌*◌, ◌≤◌, ◌≡◌, cond, List, map, ltb, length, take}
+use Rattle.std.specs.Prelude.{ℕ, ◌+◌, ◌*◌, ◌≤◌, ◌≡◌, cond, List, map, ltb, length, take, Ok}
 use Rattle.std.proofs.lemmas.List.Edits.{sets}
 use Rattle.classes.specs.declared.Mode.{Mode}
 use Rattle.records.specs.Text.{Text}
 use Rattle.records.specs.declared.Parser.{Parser}
-use Rattle.records.specs.declared.Verdict.TheVariants.{Accepted}
 use Rattle.stream.specs.Stream.{stream_of, most_tokens}
 use Rattle.parse.specs.declared.Cluster.{Cluster}
 use Rattle.segment.specs.declared.Segmenter.{Segmenter}
@@ -81,7 +80,7 @@ pub record RoomyIn (parser : Parser) (mode : Mode) (t : Text) (room : ℕ) (cell
 -- the columns filled by all calls
 abbrev pub FilledOn : Parser → Mode → List ℕ → List ℕ → Output → Output → Output → Output → Output → Output → Type 0
 FilledOn parser mode scalars stream o l m n s e =
-    exits o l m n s e ≡ lefts Accepted (columns_of scalars stream 0 (calls_of parser mode stream)) (entries o l m n s e)
+    exits o l m n s e ≡ lefts (Ok tt) (columns_of scalars stream 0 (calls_of parser mode stream)) (entries o l m n s e)
 
 abbrev pub FilledIn : Parser → Mode → Text → Output → Output → Output → Output → Output → Output → Type 0
 FilledIn parser mode t o l m n s e = FilledOn parser mode t.records.scalars (stream_of mode parser t) o l m n s e

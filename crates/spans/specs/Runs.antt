@@ -1,10 +1,9 @@
 -- The full run with spans: segment's own run, "four more columns with a cell for each pushed character (offset, length, notes' offset, notes'
 -- length) and two with a cell for each cluster (start, end)", all of them output columns for refusal 9 (SCOPE 12.7).
-use Rattle.std.specs.Prelude.{ℕ, min, ◌≡◌, List, [], ◌∷◌, ◌++◌, map, length, drop}
+use Rattle.std.specs.Prelude.{ℕ, min, ◌≡◌, List, [], ◌∷◌, ◌++◌, map, length, drop, Ok, Err}
 use Rattle.classes.specs.declared.Mode.{Mode}
 use Rattle.records.specs.declared.Parser.{Parser}
-use Rattle.records.specs.declared.Verdict.{Verdict}
-use Rattle.records.specs.declared.Verdict.TheVariants.{Accepted, Refused}
+use Rattle.records.specs.Verdict.{Verdict}
 use Rattle.records.specs.Text.{Text}
 use Rattle.stream.specs.Stream.{stream_of}
 use Rattle.parse.specs.declared.Parse.{Parse}
@@ -44,8 +43,8 @@ nlength_in s = s.nlength
 
 -- a lent column afterwards
 abbrev pub left_under : Verdict → List ℕ → List ℕ → List ℕ
-left_under Accepted values cells = values ++ drop (length values) cells
-left_under (Refused r) values cells = cells
+left_under (Ok _) values cells = values ++ drop (length values) cells
+left_under (Err r) values cells = cells
 
 -- the six columns of spans, as they are lent and as they are left: a column is the values that it is to hold
 pub record Columns : Type 0 where

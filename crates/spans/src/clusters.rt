@@ -13,9 +13,10 @@ fn record_at(text: &[u64], at: usize) -> u16
     ensures { result ≡ record_at text.now at }
 {
     if at < text.len() {
-        return token::index(text[at]);
+        token::index(text[at])
+    } else {
+        0
     }
-    0
 }
 
 // The record of the last token of a character and its notes.
@@ -33,19 +34,14 @@ fn last_record(text: &[u64], c: Pushed, at: usize) -> u16
 pub(crate) fn first_record(c: Cluster) -> u16
     ensures { result ≡ first_record (characters_of c) }
 {
-    if c.len == 0 {
-        return 0;
-    }
-    let chars = c.chars;
-    let first = chars[0];
-    first.index
+    if c.len == 0 { 0 } else { c.chars[0].index }
 }
 
 // How many bytes lie from one offset to another; 0 where the second is before the first.
 fn distance(from: u32, to: u32) -> u32
     ensures { result ≡ to - from }
 {
-    if from <= to { to - from } else { 0 }
+    to.saturating_sub(from)
 }
 
 impl Counted {
@@ -68,12 +64,11 @@ impl Counted {
         let first = own.to(scalars, record_at(text, at + 1));
         let last = first.to(scalars, last_record(text, c, at));
         let end = last.bytes + length_of(scalars, last.index);
-        let noffset = first.bytes;
-        let nlength = distance(noffset, end);
+        let nlength = distance(first.bytes, end);
         Span {
             offset,
             length,
-            noffset,
+            noffset: first.bytes,
             nlength,
         }
     }
@@ -83,21 +78,17 @@ impl Counted {
         requires { Asked scalars.now self cluster at }
         ensures { result ≡ spans_of scalars.now text.now at cluster }
     {
-        let len = cluster.len;
-        let from = cluster.chars;
         let mut along = self.to(scalars, first_record(cluster));
         let start = along.bytes;
         let mut chars = Spans::NONE.chars;
         let mut end: u32 = 0;
         let mut place = at;
-        let mut j: usize = 0;
-        while j < len {
-            let c = from[j];
+        for j in 0..cluster.len {
+            let c = cluster.chars[j];
             chars[j] = along.span(scalars, text, c, place);
             along = along.to(scalars, last_record(text, c, place));
             end = along.bytes + length_of(scalars, along.index);
             place += 1 + c.noted as usize;
-            j += 1;
         }
         Spans { chars, start, end }
     }

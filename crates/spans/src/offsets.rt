@@ -3,29 +3,26 @@ ghost use Rattle.std.specs.Prelude.{◌≡◌};
 ghost use Rattle.spans.specs.Offsets.{bytes_of, offset_of, length_of};
 ghost use Rattle.spans.specs.Inner.{Counts, counted_before};
 
-use records::cells::cell32;
+use records::cells::cell;
 
 // How many bytes a scalar has.
+#[tactic(auto, unfolding(crate::specs::Offsets::bytes_of))]
 fn bytes_of(x: u32) -> u32
     ensures { result ≡ bytes_of x }
 {
-    if x < 0x80 {
-        return 1;
+    match x {
+        0..0x80 => 1,
+        0x80..0x800 => 2,
+        0x800..0x10000 => 3,
+        _ => 4,
     }
-    if x < 0x800 {
-        return 2;
-    }
-    if x < 0x10000 {
-        return 3;
-    }
-    4
 }
 
 // How many bytes a record has.
 pub(crate) fn length_of(scalars: &[u32], index: u16) -> u32
     ensures { result ≡ length_of scalars.now index }
 {
-    bytes_of(cell32(scalars, index as usize))
+    bytes_of(cell(scalars, index as usize, 0))
 }
 
 // How many bytes stand before a record: whoever goes on from there counts no record anew.
@@ -54,11 +51,9 @@ impl Counted {
         ensures { result ≡ record { index = index; bytes = offset_of scalars.now index } }
     {
         let from = self.begin(index);
-        let mut i = from.index;
         let mut bytes = from.bytes;
-        while i < index {
+        for i in from.index..index {
             bytes += length_of(scalars, i);
-            i += 1;
         }
         Counted { index, bytes }
     }

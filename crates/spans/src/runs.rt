@@ -1,48 +1,37 @@
 // The six columns of a full run: its calls one after the other, over an array of tokens.
-ghost use Rattle.std.specs.Prelude.{◌≡◌, [], min, length};
+ghost use Rattle.std.specs.Prelude.{◌≡◌, ◌≤◌, [], min, Err};
 ghost use Rattle.records.specs.Text.{lent};
 ghost use Rattle.records.specs.Refusals.{◌⊳◌, refusal, verdict};
-ghost use Rattle.records.specs.declared.Verdict.TheVariants.{Refused};
 ghost use Rattle.records.specs.declared.Side.TheVariants.{Neither};
 ghost use Rattle.stream.specs.Stream.{stream_of, most_tokens};
 ghost use Rattle.segment.specs.Runs.{run_under};
 ghost use Rattle.spans.specs.Inner.{Fits, Written, Roomy, RoomyIn, FilledOn, FilledIn, cells_of};
 
 use crate::Spans;
-use crate::arrays::SHORT;
 use crate::clusters::first_record;
 use crate::offsets::Counted;
-use basics::shorter;
 use classes::Mode;
-use records::{Parser, Refusal, Side, Verdict, check_in};
-use segment::{RunAnswer, call, count_of, tokens_of};
+use records::{Columns, Parser, Refusal, Side, check};
+use segment::{RunAnswer, SHORT, call, count_of, tokens_of};
 use stream::MOST_TOKENS;
 
 // The length of the shortest of the six columns.
 pub(crate) fn shortest(a: usize, b: usize, c: usize, d: usize, e: usize, f: usize) -> usize
     ensures { result ≡ min a (min b (min c (min d (min e f)))) }
 {
-    shorter(a, shorter(b, shorter(c, shorter(d, shorter(e, f)))))
+    a.min(b.min(c.min(d.min(e.min(f)))))
 }
 
 // The answer where they have too few cells: 9, if the check does not refuse before.
-pub(crate) fn crowded<'s, 'a>(
-    parser: Parser,
-    wides: &'s [&'a [u32]; 2],
-    bytes: &'s [&'a [u8]; 15],
-    firsts: &'a [u16],
-) -> RunAnswer
-    ensures { result ≡ run_under (verdict parser (lent wides.entry bytes.entry firsts.entry) ⊳ Refused (refusal 9 Neither 0)) [] }
+pub(crate) fn crowded(parser: Parser, columns: &Columns) -> RunAnswer
+    ensures { result ≡ run_under (verdict parser (lent columns.now) ⊳ Err (refusal 9 Neither 0)) [] }
 {
-    let verdict = check_in(parser, wides, bytes, firsts);
-    let Verdict::Refused(refusal) = verdict else {
-        return RunAnswer::refused(Refusal {
-            number: 9,
-            side: Side::Neither,
-            index: 0,
-        });
+    let no_room = Refusal {
+        number: 9,
+        side: Side::Neither,
+        index: 0,
     };
-    RunAnswer::refused(refusal)
+    RunAnswer::refused(check(parser, columns).err().unwrap_or(no_room))
 }
 
 // The characters of one cluster, written from a cell on.
@@ -58,20 +47,17 @@ fn write(
     requires { Fits spans len at offsets.old lengths.old noffsets.old nlengths.old }
     ensures { Written spans len at offsets lengths noffsets nlengths }
 {
-    let chars = spans.chars;
-    let mut j: usize = 0;
-    while j < len {
-        let s = chars[j];
+    for j in 0..len {
+        let s = spans.chars[j];
         let i = at + j;
         offsets[i] = s.offset;
         lengths[i] = s.length;
         noffsets[i] = s.noffset;
         nlengths[i] = s.nlength;
-        j += 1;
     }
 }
 
-// Every call from the start to the end.
+// Every call from the start to the end. A call tells where the next begins: no range counts the places.
 fn fill(
     parser: Parser,
     mode: Mode,
@@ -110,14 +96,12 @@ fn fill(
     }
 }
 
-// The same over the tokens that `out` has room for.
-fn fill_within<'s, 'a>(
+// The same over the tokens in an array of N cells, in a frame of its own, as segment's runs have one.
+#[inline(never)]
+fn fill_within<const N: usize>(
     parser: Parser,
     mode: Mode,
-    wides: &'s [&'a [u32]; 2],
-    bytes: &'s [&'a [u8]; 15],
-    firsts: &'a [u16],
-    out: &mut [u64],
+    columns: &Columns,
     offsets: &mut [u32],
     lengths: &mut [u32],
     noffsets: &mut [u32],
@@ -125,14 +109,15 @@ fn fill_within<'s, 'a>(
     starts: &mut [u32],
     ends: &mut [u32],
 )
-    requires { RoomyIn parser mode (lent wides bytes firsts) (length out.old) (cells_of offsets lengths noffsets nlengths starts ends) }
-    ensures { FilledIn parser mode (lent wides.entry bytes.entry firsts.entry) offsets lengths noffsets nlengths starts ends }
+    requires { (N ≤ most_tokens) × RoomyIn parser mode (lent columns.now) N (cells_of offsets lengths noffsets nlengths starts ends) }
+    ensures { FilledIn parser mode (lent columns.now) offsets lengths noffsets nlengths starts ends }
 {
-    let n = tokens_of(parser, mode, wides, bytes, firsts, out);
+    let mut out = [0u64; N];
+    let n = tokens_of(parser, mode, columns, &mut out);
     fill(
         parser,
         mode,
-        wides[0],
+        columns.scalars,
         &out[..n],
         offsets,
         lengths,
@@ -143,37 +128,11 @@ fn fill_within<'s, 'a>(
     )
 }
 
-// The same in an array for the longest text.
-fn fill_long<'s, 'a>(
-    parser: Parser,
-    mode: Mode,
-    wides: &'s [&'a [u32]; 2],
-    bytes: &'s [&'a [u8]; 15],
-    firsts: &'a [u16],
-    offsets: &mut [u32],
-    lengths: &mut [u32],
-    noffsets: &mut [u32],
-    nlengths: &mut [u32],
-    starts: &mut [u32],
-    ends: &mut [u32],
-)
-    requires { RoomyIn parser mode (lent wides bytes firsts) most_tokens (cells_of offsets lengths noffsets nlengths starts ends) }
-    ensures { FilledIn parser mode (lent wides.entry bytes.entry firsts.entry) offsets lengths noffsets nlengths starts ends }
-{
-    let mut long = [0u64; MOST_TOKENS];
-    fill_within(
-        parser, mode, wides, bytes, firsts, &mut long, offsets, lengths, noffsets, nlengths,
-        starts, ends,
-    )
-}
-
 // The six columns of an accepted text, where they have room.
-pub(crate) fn run_roomy<'s, 'a>(
+pub(crate) fn run_roomy(
     parser: Parser,
     mode: Mode,
-    wides: &'s [&'a [u32]; 2],
-    bytes: &'s [&'a [u8]; 15],
-    firsts: &'a [u16],
+    columns: &Columns,
     offsets: &mut [u32],
     lengths: &mut [u32],
     noffsets: &mut [u32],
@@ -181,18 +140,16 @@ pub(crate) fn run_roomy<'s, 'a>(
     starts: &mut [u32],
     ends: &mut [u32],
 )
-    requires { RoomyIn parser mode (lent wides bytes firsts) most_tokens (cells_of offsets lengths noffsets nlengths starts ends) }
-    ensures { FilledIn parser mode (lent wides.entry bytes.entry firsts.entry) offsets lengths noffsets nlengths starts ends }
+    requires { RoomyIn parser mode (lent columns.now) most_tokens (cells_of offsets lengths noffsets nlengths starts ends) }
+    ensures { FilledIn parser mode (lent columns.now) offsets lengths noffsets nlengths starts ends }
 {
-    if SHORT < count_of(parser, mode, wides, bytes, firsts) {
-        fill_long(
-            parser, mode, wides, bytes, firsts, offsets, lengths, noffsets, nlengths, starts, ends,
-        );
-        return;
+    if count_of(parser, mode, columns) <= SHORT {
+        fill_within::<SHORT>(
+            parser, mode, columns, offsets, lengths, noffsets, nlengths, starts, ends,
+        )
+    } else {
+        fill_within::<MOST_TOKENS>(
+            parser, mode, columns, offsets, lengths, noffsets, nlengths, starts, ends,
+        )
     }
-    let mut short = [0u64; SHORT];
-    fill_within(
-        parser, mode, wides, bytes, firsts, &mut short, offsets, lengths, noffsets, nlengths,
-        starts, ends,
-    )
 }

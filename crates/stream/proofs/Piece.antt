@@ -124,13 +124,3 @@ module _ (mode : Mode) (khmer : Bool) (s : Source) (d : Splits) (p : Parts) (i :
           let l' : k < 2 = rw (split_sign n) at l in
           let e : k ≡ 1 = omega arith in
           rw (e, split_sign n) er
-
--- the same test by the cells, as the code makes it
-module _ (mode : Mode) (khmer : Bool) (decompose scalar count x : ℕ) (ed : x ≡ decompose) (r : Bool) where
-  pub itself_marked : (y : ℕ) → x ≡ 1 → y ≡ count → r ≡ stands_alone mode y → r ≡ gives_itself mode khmer decompose scalar count
-  unfolding gives_itself
-  itself_marked y h ey e = e ∙ rw (ey, eq-eqb decompose 1 (sym ed ∙ h))
-
-  pub itself_unmarked : (z : ℕ) (b : Bool) → (x ≡ 1 → ⊥) → z ≡ scalar → b ≡ (khmer && member khmer_signs z) → r ≡ not b → r ≡ gives_itself mode khmer decompose scalar count
-  unfolding gives_itself
-  itself_unmarked z b n ez eb e = e ∙ rw (eb, ez, ne_eqb decompose 1 (λ q. n (ed ∙ q)))

@@ -11,10 +11,10 @@ use mathlib.Core.List.{List, [], ◌∷◌, ◌++◌, append_assoc, append-nil}
 use native.Mathlib.Omega.{arith}
 use native.Mathlib.Nat.{sub-zero, le_of_eq}
 use native.Mathlib.Numerals.{add-one}
-use lib.Dec.{eqb}
+use lib.Dec.{eqb, ltb}
 use lib.ListN.{length, take, drop, set, get_or, length-append, length-set, drop_of_length-le}
 use lib.Seq.{take-suc-set, drop-set-lt, drop-drop, length-take-le, take_all, take_at, drop-cons}
-use borrow.Author.Tests.{lt-ltb, le-ltb, eqb-true, eqb-false}
+use borrow.Author.Tests.{lt-ltb, le-ltb, eqb-true, eqb-false, ltb-true, ltb-false}
 use Rattle.records.specs.Text.{Parts, cell}
 use Rattle.records.proofs.Passing.{not_so}
 use Rattle.stream.specs.Stream.{Source, Splits, own_token, itself, stands_alone, split, gather, gives_none, fetch_in, piece_count, count_from, Fills}
@@ -236,12 +236,17 @@ unfolding gather itself
 length_records s zero i = refl
 length_records s (suc n) i = ap suc (length_records s n (i + 1))
 
-module _ (s : Source) (n : ℕ) (out : List ℕ) (i room : ℕ) (q : length out ≡ room) (l : i ≤ length out) (e : take i out ++ rest (itself s) n i 0 ≡ gather (itself s) 0 n) where
-  pub fill_full : length out ≤ i → (i ≡ min (length (gather (itself s) 0 n)) room) × (take i out ≡ take i (gather (itself s) 0 n))
-  fill_full h = no_more_room (gather (itself s) 0 n) (rest (itself s) n i 0) out i room q e l (omega arith)
-
-  pub fill_over : n ≤ i → (i ≡ min (length (gather (itself s) 0 n)) room) × (take i out ≡ take i (gather (itself s) 0 n))
-  fill_over h = all_gathered (gather (itself s) 0 n) (rest (itself s) n i 0) out i room q e l (rest_over (itself s) n i 0 h)
+-- as many records as there are, or as there is room for
+module _ (s : Source) (n : ℕ) (out lent : List ℕ) (i r : ℕ) (q : length out ≡ length lent) (e : take i out ++ rest (itself s) n i 0 ≡ gather (itself s) 0 n) where
+  pub fill_done : Kept i out lent → r ≡ min n (length lent) → r ≤ i → i ≤ r → Fills (gather (itself s) 0 n) r lent out
+  fill_done k er h l =
+      let f : r ≡ i = omega arith in
+      rw f (
+        by_test (ltb i n)
+            (λ b. no_more_room (gather (itself s) 0 n) (rest (itself s) n i 0) out i (length lent) q e (omega arith) (omega (arith, ltb-true i n b)))
+            (λ b. all_gathered (gather (itself s) 0 n) (rest (itself s) n i 0) out i (length lent) q e (omega arith) (rest_over (itself s) n i 0 (ltb-false i n b))),
+        kept_is out lent i k,
+      )
 
 -- records that give the same, gathered
 pub same_gather : (f g : ℕ → List ℕ) (n i : ℕ) → ((k : ℕ) → i ≤ k → k < i + n → f k ≡ g k) → gather f i n ≡ gather g i n

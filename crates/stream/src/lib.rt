@@ -4,87 +4,73 @@
 mod pieces;
 pub mod spots;
 
-ghost use Rattle.std.specs.Prelude.{◌≡◌, ◌-◌, min};
-ghost use Rattle.records.specs.Text.{column, lent};
+ghost use Rattle.std.specs.Prelude.{◌≡◌, ◌-◌};
+ghost use Rattle.records.specs.Text.{lent};
 ghost use Rattle.stream.specs.Stream.{record_tokens, split_tokens, Fills, fetch_in, count_in};
 
 use classes::Mode;
 pub use pieces::is_split_sign;
 use pieces::{gives_itself, gives_none, own_token, piece, pieces_at};
-use records::MOST;
-use records::cells::{byte, cell8, record_count};
+use records::cells::cell;
+use records::{Columns, MOST};
 
 // The most tokens of an accepted text: three of each record.
 pub const MOST_TOKENS: usize = 12288;
 
 // The tokens of the simple or the Myanmar parser, with these classes and emoji marks, as many as there is room for: each record is
 // one. Cells past them keep their content.
-pub fn fill<'s, 'a>(
-    wides: &'s [&'a [u32]; 2],
-    bytes: &'s [&'a [u8]; 15],
-    firsts: &'a [u16],
-    kinds: &'a [u8],
-    emojis: &'a [u8],
-    out: &mut [u64],
-) -> usize
-    ensures { Fills (record_tokens (lent wides.entry bytes.entry firsts.entry) kinds.now emojis.now) result out.old out.new }
+pub fn fill(columns: &Columns, kinds: &[u8], emojis: &[u8], out: &mut [u64]) -> usize
+    ensures { Fills (record_tokens (lent columns.now) kinds.now emojis.now) result out.old out.new }
 {
-    let n = record_count(wides, bytes, firsts);
-    let mut i: usize = 0;
-    while i < n {
-        if out.len() <= i {
-            return i;
-        }
-        out[i] = own_token(wides, bytes, firsts, kinds, cell8(emojis, i), i);
-        i += 1;
+    let tokens = columns.scalars.len().min(out.len());
+    for i in 0..tokens {
+        out[i] = own_token(columns, kinds, cell(emojis, i, 0), i);
     }
-    i
+    tokens
 }
 
-// The first of n records, from record i on, that gives a token: in crate mode a marked record with count 0 gives none. It calls
-// itself for the next record, as the last thing that it does and with thin references alone, so that the compiler makes a loop of it.
-fn fetch<'s, 'a>(mode: Mode, n: usize, bytes: &'s [&'a [u8]; 15], i: usize) -> usize
-    ensures { result ≡ fetch_in mode (n - i) (column bytes.now 10) (column bytes.now 11) i }
+// The first of n records, from record i on, that gives a token: in crate mode a marked record with count 0 gives none. No `find`: where
+// none gives one the answer is n, or i where i is past n, as `fetch_in` says.
+fn fetch(mode: Mode, n: usize, columns: &Columns, i: usize) -> usize
+    ensures { result ≡ fetch_in mode (n - i) (lent columns.now).records.decomposes (lent columns.now).records.counts i }
 {
-    if i < n {
-        if gives_none(mode, byte(bytes, 10, i), byte(bytes, 11, i)) {
-            return fetch(mode, n, bytes, i + 1);
-        }
-        return i;
+    let mut j = i;
+    while j < n
+        && gives_none(
+            mode,
+            cell(columns.decomposes, j, 0),
+            cell(columns.counts, j, 0),
+        )
+    {
+        j += 1;
     }
-    i
+    j
 }
 
-// The tokens of the complex parser, as many as there is room for. Most records are one token, which is looked at first.
-pub fn collect<'s, 'a>(
-    mode: Mode,
-    khmer: bool,
-    wides: &'s [&'a [u32]; 2],
-    bytes: &'s [&'a [u8]; 15],
-    firsts: &'a [u16],
-    out: &mut [u64],
-) -> usize
-    ensures { Fills (split_tokens mode khmer (lent wides.entry bytes.entry firsts.entry)) result out.old out.new }
+// The tokens of the complex parser, as many as there is room for. Most records are one token, which is looked at first. No range counts
+// the records and the parts within one.
+pub fn collect(mode: Mode, khmer: bool, columns: &Columns, out: &mut [u64]) -> usize
+    ensures { Fills (split_tokens mode khmer (lent columns.now)) result out.old out.new }
 {
-    let n = record_count(wides, bytes, firsts);
+    let n = columns.scalars.len();
     let mut filled: usize = 0;
-    let mut i = fetch(mode, n, bytes, 0);
+    let mut i = fetch(mode, n, columns, 0);
     let mut k: usize = 0;
     while i < n {
         if out.len() <= filled {
             return filled;
         }
-        if gives_itself(mode, khmer, wides, bytes, firsts, i) {
-            out[filled] = own_token(wides, bytes, firsts, bytes[1], byte(bytes, 7, i), i);
+        if gives_itself(mode, khmer, columns, i) {
+            out[filled] = own_token(columns, columns.uses, cell(columns.cemojis, i, 0), i);
             filled += 1;
-            i = fetch(mode, n, bytes, i + 1);
+            i = fetch(mode, n, columns, i + 1);
         } else {
-            let pieces = pieces_at(mode, khmer, wides, bytes, firsts, i);
-            out[filled] = piece(mode, khmer, wides, bytes, firsts, i, k);
+            let pieces = pieces_at(mode, khmer, columns, i);
+            out[filled] = piece(mode, khmer, columns, i, k);
             filled += 1;
             k += 1;
             if pieces <= k {
-                i = fetch(mode, n, bytes, i + 1);
+                i = fetch(mode, n, columns, i + 1);
                 k = 0;
             }
         }
@@ -93,27 +79,13 @@ pub fn collect<'s, 'a>(
 }
 
 // How many tokens the first 4,096 records give to the complex parser: no accepted text has more.
-pub fn count<'s, 'a>(
-    mode: Mode,
-    khmer: bool,
-    wides: &'s [&'a [u32]; 2],
-    bytes: &'s [&'a [u8]; 15],
-    firsts: &'a [u16],
-) -> usize
-    ensures { result ≡ count_in mode khmer (lent wides.entry bytes.entry firsts.entry) }
+pub fn count(mode: Mode, khmer: bool, columns: &Columns) -> usize
+    ensures { result ≡ count_in mode khmer (lent columns.now) }
 {
-    let n = at_most(record_count(wides, bytes, firsts), MOST);
+    let n = columns.scalars.len().min(MOST);
     let mut sum: usize = 0;
-    let mut i: usize = 0;
-    while i < n {
-        sum += pieces_at(mode, khmer, wides, bytes, firsts, i);
-        i += 1;
+    for i in 0..n {
+        sum += pieces_at(mode, khmer, columns, i);
     }
     sum
-}
-
-fn at_most(n: usize, most: usize) -> usize
-    ensures { result ≡ min n most }
-{
-    if n < most { n } else { most }
 }

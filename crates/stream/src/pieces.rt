@@ -1,4 +1,6 @@
 // The tokens of one record.
+#![tactic(auto, unfolding(crate::specs::Stream::piece_count, crate::specs::Inner::gives_itself), using(crate::proofs::Piece::index_twice))]
+
 ghost use Rattle.std.specs.Prelude.{◌≡◌, ◌&&◌, [], ◌<◌};
 ghost use Rattle.basics.specs.Sets.{member};
 ghost use Rattle.classes.specs.Scalar.{khmer_signs};
@@ -7,27 +9,21 @@ ghost use Rattle.stream.specs.Stream.{source_of, own_token, part_token, stands_a
 ghost use Rattle.stream.specs.Inner.{pieces_in, itself_in, Piece};
 
 use classes::Mode;
-use records::cells::{byte, cell8, cell16, wide};
-use records::is_sign;
+use records::cells::cell;
+use records::{Columns, is_sign};
 
 // Whether a scalar is one of the five signs that Khmer splits.
 pub fn is_split_sign(khmer: bool, x: u32) -> bool
     ensures { result ≡ (khmer && member khmer_signs x) }
 {
-    if khmer {
-        return is_sign(x);
-    }
-    false
+    khmer && is_sign(x)
 }
 
 // Whether a marked record of so many parts stands for itself: where the modes differ.
 fn stands_alone(mode: Mode, count: u8) -> bool
     ensures { result ≡ stands_alone mode count }
 {
-    match mode {
-        Mode::Crate => false,
-        Mode::Whole => count == 0,
-    }
+    matches!(mode, Mode::Whole) && count == 0
 }
 
 // How many tokens a record gives to the complex parser, by its cells.
@@ -36,106 +32,72 @@ fn piece_count(mode: Mode, khmer: bool, decompose: u8, x: u32, count: u8) -> usi
 {
     if decompose == 1 {
         if stands_alone(mode, count) {
-            return 1;
+            1
+        } else {
+            count as usize
         }
-        return count as usize;
+    } else if is_split_sign(khmer, x) {
+        2
+    } else {
+        1
     }
-    if is_split_sign(khmer, x) {
-        return 2;
-    }
-    1
 }
 
 // The same by record i's place in the columns.
-pub(crate) fn pieces_at<'s, 'a>(
-    mode: Mode,
-    khmer: bool,
-    wides: &'s [&'a [u32]; 2],
-    bytes: &'s [&'a [u8]; 15],
-    firsts: &'a [u16],
-    i: usize,
-) -> usize
-    ensures { (result ≡ pieces_in mode khmer (lent wides.entry bytes.entry firsts.entry) i) × (result < 256) }
+pub(crate) fn pieces_at(mode: Mode, khmer: bool, columns: &Columns, i: usize) -> usize
+    ensures { (result ≡ pieces_in mode khmer (lent columns.now) i) × (result < 256) }
 {
     piece_count(
         mode,
         khmer,
-        byte(bytes, 10, i),
-        wide(wides, 0, i),
-        byte(bytes, 11, i),
+        cell(columns.decomposes, i, 0),
+        cell(columns.scalars, i, 0),
+        cell(columns.counts, i, 0),
     )
 }
 
 // Whether record i gives one token, itself.
-pub(crate) fn gives_itself<'s, 'a>(
-    mode: Mode,
-    khmer: bool,
-    wides: &'s [&'a [u32]; 2],
-    bytes: &'s [&'a [u8]; 15],
-    firsts: &'a [u16],
-    i: usize,
-) -> bool
-    ensures { result ≡ itself_in mode khmer (lent wides.entry bytes.entry firsts.entry) i }
+pub(crate) fn gives_itself(mode: Mode, khmer: bool, columns: &Columns, i: usize) -> bool
+    ensures { result ≡ itself_in mode khmer (lent columns.now) i }
 {
-    if byte(bytes, 10, i) == 1 {
-        return stands_alone(mode, byte(bytes, 11, i));
+    if cell(columns.decomposes, i, 0) == 1 {
+        stands_alone(mode, cell(columns.counts, i, 0))
+    } else {
+        !is_split_sign(khmer, cell(columns.scalars, i, 0))
     }
-    if is_split_sign(khmer, wide(wides, 0, i)) {
-        return false;
-    }
-    true
 }
 
 // Whether a record gives no token, by its cells.
 pub(crate) fn gives_none(mode: Mode, decompose: u8, count: u8) -> bool
     ensures { result ≡ gives_none mode decompose count }
 {
-    if decompose == 1 {
-        if stands_alone(mode, count) {
-            return false;
-        }
-        return count == 0;
-    }
-    false
+    decompose == 1 && !stands_alone(mode, count) && count == 0
 }
 
 // Record i as a token, with the classes of this column and this emoji mark.
-pub(crate) fn own_token<'s, 'a>(
-    wides: &'s [&'a [u32]; 2],
-    bytes: &'s [&'a [u8]; 15],
-    firsts: &'a [u16],
-    kinds: &'a [u8],
-    emoji: u8,
-    i: usize,
-) -> u64
-    ensures { result ≡ own_token (source_of (lent wides.entry bytes.entry firsts.entry).records kinds.now []) emoji i }
+pub(crate) fn own_token(columns: &Columns, kinds: &[u8], emoji: u8, i: usize) -> u64
+    ensures { result ≡ own_token (source_of (lent columns.now).records kinds.now []) emoji i }
 {
     token::pack(
-        wide(wides, 0, i),
-        cell8(kinds, i),
-        byte(bytes, 0, i),
-        byte(bytes, 3, i),
+        cell(columns.scalars, i, 0),
+        cell(kinds, i, 0),
+        cell(columns.breaks, i, 0),
+        cell(columns.categories, i, 0),
         emoji,
-        byte(bytes, 9, i),
+        cell(columns.selectors, i, 0),
         (i % 4096) as u16,
     )
 }
 
 // Part j as a token of record i.
-fn part_token<'s, 'a>(
-    wides: &'s [&'a [u32]; 2],
-    bytes: &'s [&'a [u8]; 15],
-    firsts: &'a [u16],
-    j: usize,
-    i: usize,
-) -> u64
-    ensures { result ≡ part_token (lent wides.entry bytes.entry firsts.entry).parts j i }
+fn part_token(columns: &Columns, j: usize, i: usize) -> u64
+    ensures { result ≡ part_token (lent columns.now).parts j i }
 {
     token::pack(
-        wide(wides, 1, j),
-        byte(bytes, 13, j),
-        byte(bytes, 12, j),
-        byte(bytes, 14, j),
+        cell(columns.pscalars, j, 0),
+        cell(columns.puses, j, 0),
+        cell(columns.pbreaks, j, 0),
+        cell(columns.pcategories, j, 0),
         0,
         0,
         (i % 4096) as u16,
@@ -143,27 +105,19 @@ fn part_token<'s, 'a>(
 }
 
 // Token k of those that record i gives to the complex parser.
-pub(crate) fn piece<'s, 'a>(
-    mode: Mode,
-    khmer: bool,
-    wides: &'s [&'a [u32]; 2],
-    bytes: &'s [&'a [u8]; 15],
-    firsts: &'a [u16],
-    i: usize,
-    k: usize,
-) -> u64
+pub(crate) fn piece(mode: Mode, khmer: bool, columns: &Columns, i: usize, k: usize) -> u64
     requires { k < 256 }
-    ensures { Piece mode khmer (lent wides.entry bytes.entry firsts.entry) i k result }
+    ensures { Piece mode khmer (lent columns.now) i k result }
 {
-    if gives_itself(mode, khmer, wides, bytes, firsts, i) {
-        return own_token(wides, bytes, firsts, bytes[1], byte(bytes, 7, i), i);
+    if gives_itself(mode, khmer, columns, i) {
+        return own_token(columns, columns.uses, cell(columns.cemojis, i, 0), i);
     }
-    let first = cell16(firsts, i) as usize;
-    if byte(bytes, 10, i) == 1 {
-        return part_token(wides, bytes, firsts, first + k, i);
+    let first = cell(columns.firsts, i, 0) as usize;
+    if cell(columns.decomposes, i, 0) == 1 {
+        return part_token(columns, first + k, i);
     }
     if k == 0 {
-        return part_token(wides, bytes, firsts, first, i);
+        return part_token(columns, first, i);
     }
-    own_token(wides, bytes, firsts, bytes[1], 0, i)
+    own_token(columns, columns.uses, 0, i)
 }

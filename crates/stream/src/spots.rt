@@ -5,7 +5,7 @@ ghost use Rattle.stream.specs.Inner.{behind_of, Takes};
 
 use crate::pieces::{piece, pieces_at};
 use classes::Mode;
-use records::cells::record_count;
+use records::Columns;
 
 // Token `part` of those that a record gives.
 #[derive(Clone, Copy)]
@@ -42,24 +42,18 @@ fn behind(i: usize, k: usize, pieces: usize) -> Spot
     }
 }
 
-// The first token from a spot on. Behind a record's last token the spot is the next record, whatever that gives.
-pub fn take<'s, 'a>(
-    mode: Mode,
-    khmer: bool,
-    wides: &'s [&'a [u32]; 2],
-    bytes: &'s [&'a [u8]; 15],
-    firsts: &'a [u16],
-    s: Spot,
-) -> Taken
-    ensures { Takes mode khmer (lent wides.entry bytes.entry firsts.entry) s result }
+// The first token from a spot on. Behind a record's last token the spot is the next record, whatever that gives. No range: the
+// first record is begun at a part.
+pub fn take(mode: Mode, khmer: bool, columns: &Columns, s: Spot) -> Taken
+    ensures { Takes mode khmer (lent columns.now) s result }
 {
-    let n = record_count(wides, bytes, firsts);
+    let n = columns.scalars.len();
     let mut i: usize = s.index;
     let mut k: usize = s.part;
     while i < n {
-        let pieces = pieces_at(mode, khmer, wides, bytes, firsts, i);
+        let pieces = pieces_at(mode, khmer, columns, i);
         if k < pieces {
-            let token = piece(mode, khmer, wides, bytes, firsts, i, k);
+            let token = piece(mode, khmer, columns, i, k);
             let next = behind(i, k, pieces);
             return Taken { token, next };
         }

@@ -1,5 +1,5 @@
 // Written by tools/tables: the cells of the complex grammar, 34 rows for each of 44 symbols, and one for each symbol of an emoji's extension.
-pub const COMPLEX: [u16; 1502] = [
+pub static COMPLEX: [u16; 1502] = [
     80, 80, 80, 64, 80, 80, 80, 80, 80, 80, 80, 80, 80, 80, 1984, 80, 80, 80, 80, 80, 80, 80, 80,
     80, 80, 80, 80, 80, 80, 80, 80, 80, 80, 80, 158, 590, 158, 142, 590, 158, 158, 158, 158, 590,
     158, 158, 158, 158, 158, 158, 158, 158, 158, 1230, 158, 158, 158, 158, 590, 158, 158, 590, 158,

@@ -1,12 +1,12 @@
 // The tables of the grammars (written by tools/tables), the symbols that they tell tokens apart by, and what makes a token regular.
-#![tactic(auto)]
+#![tactic(auto, unfolding(crate::specs::Symbols::special, crate::specs::Symbols::emoji_symbol, crate::specs::Symbols::other_in, crate::specs::Symbols::simple_in, crate::specs::Symbols::use_symbol, crate::specs::Symbols::use_in, crate::specs::Symbols::regular_myanmar, crate::specs::Symbols::regular_use))]
 
 pub mod complex_table;
 pub mod khmer_table;
 pub mod myanmar_table;
 pub mod simple_table;
 
-ghost use Rattle.std.specs.Prelude.{◌≡◌, false, cond, ◌<◌, ◌≤◌};
+ghost use Rattle.std.specs.Prelude.{◌≡◌, ◌<◌, ◌≤◌};
 ghost use Rattle.tables.specs.Symbols.{special, emoji_symbol, other_in, other_symbol, use_other, implies, simple_in, simple_symbol, is_khmer_coeng, use_symbol, regular_myanmar, regular_use};
 
 use classes::{category, cluster_break, myanmar_class, scalar, use_class};
@@ -15,30 +15,23 @@ use myanmar::begins_kinzi;
 fn special_of(x: u32) -> usize
     ensures { (result ≡ special x) × (result < 4) }
 {
-    if x == scalar::ZWNJ {
-        return 1;
+    match x {
+        scalar::ZWNJ => 1,
+        scalar::VS15 => 2,
+        scalar::VS16 => 3,
+        _ => 0,
     }
-    if x == scalar::VS15 {
-        return 2;
-    }
-    if x == scalar::VS16 {
-        return 3;
-    }
-    0
 }
 
 // What an emoji's extension asks of a token.
 pub fn emoji_symbol(t: u64) -> usize
     ensures { (result ≡ emoji_symbol t) × (result < 6) }
 {
-    let brk = token::break_class(t);
-    if brk == cluster_break::EX {
-        return 1 + special_of(token::scalar(t));
+    match token::break_class(t) {
+        cluster_break::EX => 1 + special_of(token::scalar(t)),
+        cluster_break::ZWJ => 5,
+        _ => 0,
     }
-    if brk == cluster_break::ZWJ {
-        return 5;
-    }
-    0
 }
 
 // A token of class O, by what the arm O makes of it.
@@ -53,20 +46,12 @@ fn other_symbol(first: usize, base: usize, t: u64) -> usize
     if x == scalar::LF {
         return first + 1;
     }
-    let category = token::category(t);
-    if category == category::Format {
-        if x == scalar::ZWNJ {
-            return first + 2;
-        }
-        if x == scalar::ZWJ {
-            return first + 3;
-        }
-        return first + 4;
+    match token::category(t) {
+        category::Format if x == scalar::ZWNJ => first + 2,
+        category::Format if x == scalar::ZWJ => first + 3,
+        category::Format | category::Control => first + 4,
+        _ => base,
     }
-    if category == category::Control {
-        return first + 4;
-    }
-    base
 }
 
 pub fn myanmar_other(t: u64) -> usize
@@ -110,10 +95,7 @@ pub fn simple_symbol(t: u64) -> usize
 fn is_coeng(khmer: bool, x: u32) -> bool
     ensures { result ≡ is_khmer_coeng khmer x }
 {
-    if khmer {
-        return x == scalar::COENG;
-    }
-    false
+    khmer && x == scalar::COENG
 }
 
 // The symbol of the complex parser, with and without Khmer.
@@ -136,37 +118,23 @@ pub fn use_symbol(khmer: bool, t: u64) -> usize
 fn implied(a: bool, b: bool) -> bool
     ensures { result ≡ implies a b }
 {
-    if a { b } else { true }
+    !a | b
 }
 
-fn both(a: bool, b: bool) -> bool
-    ensures { result ≡ cond a b false }
-{
-    if a { b } else { false }
-}
-
-// Whether a token of the Myanmar parser is regular, by its cells.
+// Whether a token of the Myanmar parser is regular, by its cells: `&` and no `&&`, so that the passes over whole columns have no branch.
 pub fn is_regular_myanmar(x: u32, kind: u8, emoji: u8) -> bool
     ensures { result ≡ regular_myanmar x kind emoji }
 {
-    both(
-        implied(emoji == 1, kind == myanmar_class::O),
-        both(
-            implied(begins_kinzi(x), kind == myanmar_class::C),
-            implied(x == scalar::LF, both(kind == myanmar_class::O, emoji == 0)),
-        ),
-    )
+    implied(emoji == 1, kind == myanmar_class::O)
+        & implied(begins_kinzi(x), kind == myanmar_class::C)
+        & implied(x == scalar::LF, (kind == myanmar_class::O) & (emoji == 0))
 }
 
 // The same of the complex parser.
 pub fn is_regular_use(khmer: bool, x: u32, kind: u8, emoji: u8) -> bool
     ensures { result ≡ regular_use khmer x kind emoji }
 {
-    both(
-        implied(emoji == 1, kind == use_class::O),
-        both(
-            implied(is_coeng(khmer, x), kind == use_class::H),
-            implied(x == scalar::LF, both(kind == use_class::O, emoji == 0)),
-        ),
-    )
+    implied(emoji == 1, kind == use_class::O)
+        & implied(is_coeng(khmer, x), kind == use_class::H)
+        & implied(x == scalar::LF, (kind == use_class::O) & (emoji == 0))
 }

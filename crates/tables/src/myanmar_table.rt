@@ -1,5 +1,5 @@
 // Written by tools/tables: the cells of the Myanmar grammar, 34 rows for each of 34 symbols, and one for each symbol of an emoji's extension.
-pub const MYANMAR: [u16; 1162] = [
+pub static MYANMAR: [u16; 1162] = [
     94, 94, 330, 94, 1348, 330, 330, 94, 94, 330, 330, 330, 330, 1610, 94, 330, 330, 330, 1802,
     330, 94, 2052, 94, 330, 330, 1610, 2122, 94, 1802, 1802, 94, 1802, 78, 94, 94, 94, 398, 94,
     1348, 94, 398, 1422, 94, 1102, 94, 1102, 1550, 1678, 94, 94, 94, 94, 1870, 398, 94, 2052, 94,

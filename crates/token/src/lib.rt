@@ -1,5 +1,6 @@
 // A token of the stream in one number, so that the parsers read one column: what they ask of a character, and the record that it
-// came from. Each field is taken out by a quotient and a remainder.
+// came from. Each field is taken out by a quotient and a remainder. It is a `u64` and no type of its own, since a text is a list of numbers
+// in the definitions of the grammars and their theorems; and a mark is 0 or 1 and no `bool`, as the lent columns have it.
 #![tactic(auto)]
 
 ghost use Rattle.std.specs.Prelude.{◌≡◌};

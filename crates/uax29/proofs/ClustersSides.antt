@@ -1,22 +1,19 @@
--- How the code's tests of two columns are the sides of the rules: each law takes what the code has shown, and gives the function's
--- own claim, so that `search` over a ruleset follows the code. Assumes nothing.
+-- What the code's readings of a place say of the characters on its two sides. Assumes nothing.
+use Rattle.std.specs.Prelude.{Option, None, Some, MatchOption, is_some, is_none}
+use Rattle.std.specs.Option.{option_eq, option_copied, unwrap_or}
+use denote.Bor.{Bor}
 use Prim.Native.Nat.{ℕ, zero, suc, ◌+◌, ◌-◌, ◌<◌, ◌≤◌}
-use mathlib.Core.Path.{◌≡◌, refl, sym, ◌∙◌, ap}
-use mathlib.Core.Bool.{Bool, true, false, cond, not, ◌&&◌, ◌||◌, and-false, or-false, false≢true, not-not}
+use mathlib.Core.Path.{◌≡◌, refl, sym, ◌∙◌, ap, subst}
+use mathlib.Core.Bool.{Bool, true, false, cond, not, ◌&&◌, ◌||◌, and-false, or-false, false≢true}
 use mathlib.Core.List.{List, [], ◌∷◌}
 use native.Mathlib.Omega.{arith}
 use lib.Dec.{eqb, leb, ltb}
-use lib.ListN.{length}
-use borrow.Author.Tests.{lt-ltb, le-ltb, ltb-true, ltb-false, le-leb, lt-leb, eq-eqb, ne_eqb}
-use Rattle.basics.proofs.Tests.{by_test}
+use lib.ListN.{length, drop, get_or}
+use borrow.Author.Tests.{lt-ltb, le-ltb, lt-leb, ltb-true, ltb-false, eq-eqb}
+use Rattle.basics.specs.Sets.{member}
 use Rattle.records.specs.Text.{cell}
-use Rattle.uax29.specs.Clusters.{Item, Test, Side, Rule, is, is_not, among, pictographic, edge, any, one, next, many, pairs, applies, decide, item_at, before_in, before_of, items_from, after_of, rules, boundary_at}
-use Rattle.uax29.specs.ClustersBack.{beyond}
-
-not_lt : (i n : ℕ) → not (ltb i n) ≡ leb n i
-not_lt i n = by_test (ltb i n)
-    (λ h. rw (h, lt-leb n i (ltb-true i n h)))
-    (λ h. rw (h, le-leb n i (ltb-false i n h)))
+use Rattle.uax29.specs.Clusters.{Item, Test, Side, is, is_not, among, pictographic, edge, one, next, many, pairs, item_at, before_in, before_of, items_from, after_of, rules, decide, boundary_at}
+use Rattle.uax29.specs.ClustersBack.{beyond, nearest}
 
 -- the characters on the two sides of a place
 module _ (breaks marks : List ℕ) (at : ℕ) where
@@ -37,177 +34,90 @@ module _ (breaks marks : List ℕ) (at : ℕ) where
   some_after l = let e : length breaks - at ≡ suc (length breaks - at - 1) = omega arith in ap (items_from breaks marks [] at) e
 
   -- no character
-  pub before_not_there : (p : Test) → at ≡ 0 → false ≡ one p (before_of breaks marks at)
+  pub before_not_there : (p : Test) → at ≡ 0 → not (eqb at 0) ≡ one p (before_of breaks marks at)
   unfolding one
-  before_not_there p e = sym (ap (one p) (none_before e))
+  before_not_there p e = rw (eq-eqb at 0 e) (sym (ap (one p) (none_before e)))
 
-  pub after_not_there : (p : Test) → length breaks ≤ at → false ≡ one p (after_of breaks marks at)
+  pub after_not_there : (p : Test) → length breaks ≤ at → ltb at (length breaks) ≡ one p (after_of breaks marks at)
   unfolding one
-  after_not_there p l = sym (ap (one p) (none_after l))
+  after_not_there p l = rw (le-ltb at (length breaks) l) (sym (ap (one p) (none_after l)))
 
-  -- one character, read from its cell
-  module _ (v : ℕ) where
-    pub before_of_lem : (k : ℕ) → (at ≡ 0 → ⊥) → v ≡ cell breaks (at - 1) → eqb v k ≡ one (is k) (before_of breaks marks at)
-    unfolding one is
-    before_of_lem k n e = ap (λ x. eqb x k) e ∙ sym (ap (one (is k)) (some_before n))
+  -- the mark of the nearest character, read from its cell
+  pub before_marked : (v : ℕ) → (at ≡ 0 → ⊥) → v ≡ cell marks (at - 1) → eqb v 1 ≡ one pictographic (before_of breaks marks at)
+  unfolding one pictographic
+  before_marked v n e = ap (λ x. eqb x 1) e ∙ sym (ap (one pictographic) (some_before n))
 
-    pub before_of_other : (k : ℕ) → (at ≡ 0 → ⊥) → v ≡ cell breaks (at - 1) → not (eqb v k) ≡ one (is_not k) (before_of breaks marks at)
-    unfolding one is is_not
-    before_of_other k n e = ap (λ x. not (eqb x k)) e ∙ sym (ap (one (is_not k)) (some_before n))
+  pub after_marked : (v : ℕ) → at < length breaks → v ≡ cell marks at → eqb v 1 ≡ one pictographic (after_of breaks marks at)
+  unfolding one pictographic
+  after_marked v l e = ap (λ x. eqb x 1) e ∙ sym (ap (one pictographic) (some_after l))
 
-    pub before_marked : (at ≡ 0 → ⊥) → v ≡ cell marks (at - 1) → eqb v 1 ≡ one pictographic (before_of breaks marks at)
-    unfolding one pictographic
-    before_marked n e = ap (λ x. eqb x 1) e ∙ sym (ap (one pictographic) (some_before n))
+  -- its class
+  pub nearest_none : at ≡ 0 → None ≡ nearest (before_of breaks marks at)
+  nearest_none e = sym (ap nearest (none_before e))
 
-    pub after_of_lem : (k : ℕ) → at < length breaks → v ≡ cell breaks at → eqb v k ≡ one (is k) (after_of breaks marks at)
-    unfolding one is
-    after_of_lem k l e = ap (λ x. eqb x k) e ∙ sym (ap (one (is k)) (some_after l))
+  pub nearest_some : (v : ℕ) → (at ≡ 0 → ⊥) → v ≡ cell breaks (at - 1) → Some v ≡ nearest (before_of breaks marks at)
+  nearest_some v n e = rw e (sym (ap nearest (some_before n)))
 
-    pub after_marked : at < length breaks → v ≡ cell marks at → eqb v 1 ≡ one pictographic (after_of breaks marks at)
-    unfolding one pictographic
-    after_marked l e = ap (λ x. eqb x 1) e ∙ sym (ap (one pictographic) (some_after l))
+  pub nearest_after : (o : Option (Bor ℕ)) → is_some o ≡ ltb at (length breaks) → ((d : ℕ) → unwrap_or (option_copied o) d ≡ get_or breaks at d)
+      → option_copied o ≡ nearest (after_of breaks marks at)
+  nearest_after None h f = sym (ap nearest (none_after (ltb-false _ _ (sym h))))
+  nearest_after (Some x) h f = ap (λ v. Some v) (f 0) ∙ sym (ap nearest (some_after (ltb-true _ _ (sym h))))
 
-pub ruleset cells = (before_not_there, after_not_there, before_of_lem, before_of_other, before_marked, after_of_lem, after_marked)
-
--- a character of one of some classes: t is what the code says of the first class
-module _ (k : ℕ) (t : Bool) where
-  pub among_first : (ks : List ℕ) (xs : List Item) → t ≡ one (is k) xs → t ≡ true → true ≡ one (among (k ∷ ks)) xs
-  unfolding one is among
-  among_first ks [] e h = sym h ∙ e
-  among_first ks (x ∷ xs) e h = rw (← e, h)
-
-  pub among_next : (ks : List ℕ) (xs : List Item) (u : Bool) → t ≡ one (is k) xs → t ≡ false → u ≡ one (among ks) xs → u ≡ one (among (k ∷ ks)) xs
-  unfolding one is among
-  among_next ks [] u e h d = d
-  among_next ks (x ∷ xs) u e h d = rw (← e, h) d
-
-  pub among_last : (xs : List Item) → t ≡ one (is k) xs → t ≡ one (among (k ∷ [])) xs
-  unfolding one is among
-  among_last [] e = e
-  among_last (x ∷ xs) e = e ∙ sym (or-false (eqb x.kind k))
-
-pub ruleset among_some = (among_first, among_next, among_last)
-
--- a rule applies where both its sides do; t is what the code says of the first
-module _ (a b t : Bool) where
-  pub both_not : t ≡ a → t ≡ false → false ≡ (a && b)
-  both_not e h = rw (← e, h)
-
-  pub both_then : (u : Bool) → t ≡ a → t ≡ true → u ≡ b → u ≡ (a && b)
-  both_then u e h d = rw (← e, h) d
-
--- a rule that asks nothing of its right side
-pub left_only : (a t : Bool) → t ≡ a → t ≡ (a && true)
-left_only true t e = e
-left_only false t e = e
-
-pub ruleset sides = (both_not, both_then, left_only, among_first, among_next, among_last)
-
--- the edges of the text
-module _ (breaks marks : List ℕ) (at : ℕ) where
-  edge_before : edge (before_of breaks marks at) ≡ eqb at 0
-  unfolding edge before_in
-  edge_before = go at
+  -- beyond the nearest character
+  pub one_back : before_of breaks marks (at - 1) ≡ drop 1 (before_of breaks marks at)
+  unfolding before_in
+  one_back = go at
     where
-      go : (i : ℕ) → edge (before_of breaks marks i) ≡ eqb i 0
+      go : (i : ℕ) → before_of breaks marks (i - 1) ≡ drop 1 (before_of breaks marks i)
       go zero = refl
-      go (suc i) = sym (ne_eqb (suc i) 0 (λ e. omega arith))
+      go (suc i) = let e : suc i - 1 ≡ i = omega arith in ap (before_of breaks marks) e
 
-  edge_after : edge (after_of breaks marks at) ≡ not (ltb at (length breaks))
-  unfolding edge
-  edge_after = by_test (ltb at (length breaks))
-      (λ h. ap edge (some_after breaks marks at (ltb-true _ _ h)) ∙ rw h)
-      (λ h. ap edge (none_after breaks marks at (ltb-false _ _ h)) ∙ rw h)
+pub ruleset cells = (before_not_there, after_not_there, before_marked, after_marked, nearest_none, nearest_some, one_back)
 
-  any_before : any (before_of breaks marks at) ≡ not (eqb at 0)
-  unfolding any
-  any_before = ap not edge_before
-
-  any_after : any (after_of breaks marks at) ≡ ltb at (length breaks)
-  unfolding any
-  any_after = ap not edge_after ∙ not-not (ltb at (length breaks))
-
-  module _ (e : at ≡ 0) where
-    pub start_parts : ltb at (length breaks) ≡ (edge (before_of breaks marks at) && any (after_of breaks marks at))
-    start_parts = sym (rw (edge_before, any_after, eq-eqb at 0 e))
-
-    pub start_no_end : (b : Bool) → false ≡ (any (before_of breaks marks at) && b)
-    start_no_end b = sym (rw (any_before, eq-eqb at 0 e))
-
-  module _ (n : at ≡ 0 → ⊥) where
-    pub inside_no_start : (b : Bool) → false ≡ (edge (before_of breaks marks at) && b)
-    inside_no_start b = sym (rw (edge_before, ne_eqb at 0 n))
-
-    pub end_parts : leb (length breaks) at ≡ (any (before_of breaks marks at) && edge (after_of breaks marks at))
-    end_parts = sym (rw (any_before, edge_after, ne_eqb at 0 n) (not_lt at (length breaks)))
-
-    pub inside_parts : ltb at (length breaks) ≡ (any (before_of breaks marks at) && any (after_of breaks marks at))
-    inside_parts = sym (rw (any_before, any_after, ne_eqb at 0 n))
-
-pub ruleset edges = (start_parts, start_no_end, inside_no_start, end_parts, inside_parts)
-
--- the first rule that applies decides
-module _ (r : Rule) (rs : List Rule) (before after : List Item) (t : Bool) (e : t ≡ applies r before after) where
-  pub decided : (says : Bool) → says ≡ r.parts → t ≡ true → says ≡ decide (r ∷ rs) before after
-  unfolding decide
-  decided says q h = q ∙ rw (← e, h)
-
-  pub passed_on : (says : Bool) → t ≡ false → says ≡ decide rs before after → says ≡ decide (r ∷ rs) before after
-  unfolding decide
-  passed_on says h d = rw (← e, h) d
-
-  -- the last rule, which says ÷
-  pub decided_last : r.parts ≡ true → t ≡ decide (r ∷ []) before after
-  unfolding decide
-  decided_last q = e ∙ go (applies r before after) r.parts q
+-- what the class of the nearest character, o, says of it
+module _ (xs : List Item) (o : Option ℕ) (e : o ≡ nearest xs) where
+  pub kind_is : (k : ℕ) (r : Bool) → r ≡ option_eq eqb o (Some k) → r ≡ one (is k) xs
+  unfolding one is
+  kind_is k r h = h ∙ rw e (go xs)
     where
-      go : (b says : Bool) → says ≡ true → b ≡ cond b says false
-      go true says k = sym k
-      go false says k = refl
+      go : (ys : List Item) → option_eq eqb (nearest ys) (Some k) ≡ one (is k) ys
+      go [] = refl
+      go (y ∷ ys) = refl
 
--- past the end there is no place
-module _ (breaks marks : List ℕ) (at : ℕ) where
-  pub no_place : length breaks < at → false ≡ boundary_at breaks marks at
-  unfolding boundary_at
-  no_place h = rw (lt-ltb (length breaks) at h)
+  pub kind_among : (ks : List ℕ) (r : Bool) {P : ℕ → Type 0} → MatchOption o (r ≡ false) P → ((k : ℕ) → P k → r ≡ member ks k) → r ≡ one (among ks) xs
+  unfolding one among
+  kind_among ks r {P} h told = go xs (subst (λ p. MatchOption p (r ≡ false) P) e h)
+    where
+      go : (ys : List Item) → MatchOption (nearest ys) (r ≡ false) P → r ≡ one (among ks) ys
+      go [] k = k
+      go (y ∷ ys) k = told y.kind k
 
-  pub a_place : (says : Bool) → at ≤ length breaks → says ≡ decide rules (before_of breaks marks at) (after_of breaks marks at) → says ≡ boundary_at breaks marks at
-  unfolding boundary_at
-  a_place says h e = rw (le-ltb (length breaks) at h) e
+  pub none_is : (r : Bool) → r ≡ is_none o → r ≡ edge xs
+  unfolding edge
+  none_is r h = h ∙ rw e (go xs)
+    where
+      go : (ys : List Item) → is_none (nearest ys) ≡ edge ys
+      go [] = refl
+      go (y ∷ ys) = refl
 
-pub ruleset decides = (decided, passed_on)
+pub ruleset kinds = (kind_is, none_is)
 
--- a character and what stands beyond it
-module _ (breaks marks : List ℕ) (at : ℕ) (p : Test) (q : Side) where
-  pub next_none : at ≡ 0 → false ≡ next p q (before_of breaks marks at)
-  unfolding next
-  next_none e = sym (ap (next p q) (none_before breaks marks at e))
+-- a character, and what stands beyond it
+pub next_one : (p : Test) (q : Side) (xs : List Item) → next p q xs ≡ (one p xs && q (drop 1 xs))
+unfolding next one
+next_one p q [] = refl
+next_one p q (x ∷ xs) = refl
 
-  module _ (n : at ≡ 0 → ⊥) (t : Bool) (e : t ≡ one p (before_of breaks marks at)) where
-    first_is : p (item_at breaks marks (at - 1)) ≡ t
-    unfolding one
-    first_is = sym (e ∙ ap (one p) (some_before breaks marks at n))
-
-    next_is_lem : next p q (before_of breaks marks at) ≡ (t && q (before_of breaks marks (at - 1)))
-    unfolding next
-    next_is_lem = ap (next p q) (some_before breaks marks at n) ∙ ap (λ b. b && q (before_of breaks marks (at - 1))) first_is
-
-    pub next_not : t ≡ false → false ≡ next p q (before_of breaks marks at)
-    next_not h = sym (next_is_lem ∙ rw h)
-
-    pub next_then : (u : Bool) → t ≡ true → u ≡ q (before_of breaks marks (at - 1)) → u ≡ next p q (before_of breaks marks at)
-    next_then u h d = d ∙ sym (next_is_lem ∙ rw h)
-
-pub ruleset nexts = (next_none, next_not, next_then)
+pub one_other : (k : ℕ) (xs : List Item) → one (is_not k) xs ≡ (not (edge xs) && not (one (is k) xs))
+unfolding one is_not edge
+one_other k [] = refl
+one_other k (x ∷ xs) = refl
 
 -- a test of a character that holds has a character
 pub there : (breaks marks : List ℕ) (at : ℕ) (p : Test) (t : Bool) → t ≡ one p (before_of breaks marks at) → t ≡ true → 0 < at
 unfolding one before_in
 there breaks marks zero p t e h = absurd (false≢true (sym e ∙ h))
 there breaks marks (suc at) p t e h = omega arith
-
-pub there_falls : (breaks marks : List ℕ) (at : ℕ) (p : Test) (t : Bool) → t ≡ one p (before_of breaks marks at) → t ≡ true → at - 1 < at
-there_falls breaks marks at p t e h = omega (arith, there breaks marks at p t e h)
 
 or-true : (a b : Bool) → a ≡ true → (a || b) ≡ true
 or-true true b e = refl
@@ -229,16 +139,16 @@ module _ (p q : Test) where
   many_over [] h = refl
   many_over (x ∷ xs) h = rw h (or-false (q x))
 
--- The loop: the place i goes down to where it is decided; t says that p holds of the character before it, u that q does.
-module _ (breaks marks : List ℕ) (at i : ℕ) (p q : Test) (inv : many p (one q) (before_of breaks marks i) ≡ many p (one q) (before_of breaks marks at)) (u : Bool) (eu : u ≡ one q (before_of breaks marks i)) where
-  pub many_found : u ≡ true → true ≡ many p (one q) (before_of breaks marks at)
-  many_found h = sym (many_here p q (before_of breaks marks i) (sym eu ∙ h)) ∙ inv
+-- The loop: the place i goes down to where it is decided; t says that p holds of the character before it, u that q does not.
+module _ (breaks marks : List ℕ) (i : ℕ) (p q : Test) (all : Bool) (inv : many p (one q) (before_of breaks marks i) ≡ all) (u : Bool) (eu : u ≡ one q (before_of breaks marks i)) where
+  pub many_found : (v : Bool) → v ≡ one q (before_of breaks marks i) → v ≡ true → u ≡ all
+  many_found v ev h = eu ∙ sym ev ∙ h ∙ sym (many_here p q (before_of breaks marks i) (sym ev ∙ h)) ∙ inv
 
   module _ (t : Bool) (et : t ≡ one p (before_of breaks marks i)) where
-    pub many_ends : t ≡ false → u ≡ many p (one q) (before_of breaks marks at)
+    pub many_ends : t ≡ false → u ≡ all
     many_ends h = eu ∙ sym (many_over p q (before_of breaks marks i) (sym et ∙ h)) ∙ inv
 
-    pub many_turns : t ≡ true → u ≡ false → many p (one q) (before_of breaks marks (i - 1)) ≡ many p (one q) (before_of breaks marks at)
+    pub many_turns : t ≡ true → u ≡ false → many p (one q) (before_of breaks marks (i - 1)) ≡ all
     unfolding one
     many_turns h k =
         let l : 0 < i = there breaks marks i p t et h in
@@ -263,7 +173,7 @@ unfolding next one beyond
 beyond_pair p x y xs h = rw h
 
 -- The loop: the place i goes down by pairs.
-module _ (breaks marks : List ℕ) (at i : ℕ) (p : Test) (inv : beyond p (before_of breaks marks i) ≡ beyond p (before_of breaks marks at)) (t : Bool) (et : t ≡ next p (one p) (before_of breaks marks i)) where
+module _ (breaks marks : List ℕ) (i : ℕ) (p : Test) (past : List Item) (inv : beyond p (before_of breaks marks i) ≡ past) (t : Bool) (et : t ≡ next p (one p) (before_of breaks marks i)) where
   pub pair_there : t ≡ true → 2 ≤ i
   unfolding next one before_in
   pair_there h = go i (sym et ∙ h)
@@ -273,10 +183,7 @@ module _ (breaks marks : List ℕ) (at i : ℕ) (p : Test) (inv : beyond p (befo
       go (suc zero) k = absurd (false≢true (sym (and-false (p (item_at breaks marks 0))) ∙ k))
       go (suc (suc j)) k = omega arith
 
-  pub pair_falls : t ≡ true → i - 2 < i
-  pair_falls h = omega (arith, pair_there h)
-
-  pub pair_ends : t ≡ false → before_of breaks marks i ≡ beyond p (before_of breaks marks at)
+  pub pair_ends : t ≡ false → before_of breaks marks i ≡ past
   unfolding next one beyond
   pair_ends h = go (before_of breaks marks i) (sym et ∙ h) ∙ inv
     where
@@ -285,7 +192,7 @@ module _ (breaks marks : List ℕ) (at i : ℕ) (p : Test) (inv : beyond p (befo
       go (x ∷ []) k = refl
       go (x ∷ y ∷ xs) k = rw k
 
-  pub pair_turns : t ≡ true → beyond p (before_of breaks marks (i - 2)) ≡ beyond p (before_of breaks marks at)
+  pub pair_turns : t ≡ true → beyond p (before_of breaks marks (i - 2)) ≡ past
   unfolding next one before_in
   pair_turns h = go i (sym et ∙ h) ∙ inv
     where
@@ -296,11 +203,23 @@ module _ (breaks marks : List ℕ) (at i : ℕ) (p : Test) (inv : beyond p (befo
           ap (λ l. beyond p (before_of breaks marks l)) e ∙ sym (beyond_pair p (item_at breaks marks (suc j)) (item_at breaks marks j) (before_of breaks marks j) k)
 
 -- beyond the pairs of a class: the start, or a character of another
-module _ (breaks marks : List ℕ) (at i k : ℕ) (e : before_of breaks marks i ≡ beyond (is k) (before_of breaks marks at)) where
-  pub pairs_from_start : eqb i 0 ≡ pairs (is k) edge (before_of breaks marks at)
+module _ (k : ℕ) (xs : List Item) where
+  pub pairs_from_start : pairs (is k) edge xs ≡ edge (beyond (is k) xs)
   unfolding edge
-  pairs_from_start = sym (edge_before breaks marks i) ∙ ap edge e ∙ sym (pairs_beyond (is k) edge (λ x xs h. refl) (before_of breaks marks at))
+  pairs_from_start = pairs_beyond (is k) edge (λ x ys h. refl) xs
 
-  pub pairs_after_other : (t : Bool) → t ≡ one (is_not k) (before_of breaks marks i) → t ≡ pairs (is k) (one (is_not k)) (before_of breaks marks at)
+  pub pairs_after_other : pairs (is k) (one (is_not k)) xs ≡ one (is_not k) (beyond (is k) xs)
   unfolding one is_not
-  pairs_after_other t h = h ∙ ap (one (is_not k)) e ∙ sym (pairs_beyond (is k) (one (is_not k)) (λ x xs d. rw d) (before_of breaks marks at))
+  pairs_after_other = pairs_beyond (is k) (one (is_not k)) (λ x ys d. rw d) xs
+
+pub ruleset flags = (next_one, pairs_from_start, pairs_after_other, one_other)
+
+-- past the end there is no place
+module _ (breaks marks : List ℕ) (at : ℕ) where
+  pub no_place : length breaks < at → leb at (length breaks) ≡ boundary_at breaks marks at
+  unfolding boundary_at
+  no_place h = rw (lt-ltb (length breaks) at h, lt-leb at (length breaks) h)
+
+  pub a_place : (says : Bool) → at ≤ length breaks → says ≡ decide rules (before_of breaks marks at) (after_of breaks marks at) → says ≡ boundary_at breaks marks at
+  unfolding boundary_at
+  a_place says h e = rw (le-ltb (length breaks) at h) e

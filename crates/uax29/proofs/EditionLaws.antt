@@ -1,7 +1,8 @@
 -- How the check, the runs and the step of an edition come out. Assumes nothing.
+use Rattle.std.specs.Prelude.{Ok, Err}
 use Prim.Native.Nat.{ℕ, zero, suc, ◌+◌, ◌-◌, ◌<◌, ◌≤◌}
 use mathlib.Core.Path.{◌≡◌, refl, sym, ◌∙◌, ap}
-use mathlib.Core.Bool.{Bool, true, false, cond, not, ◌&&◌, ◌||◌, and-false, and-true, or-false, false≢true}
+use mathlib.Core.Bool.{Bool, true, false, cond, not, ◌&&◌, ◌||◌, and-false, and-true, false≢true}
 use mathlib.Core.List.{List, [], ◌∷◌, ◌++◌}
 use native.Mathlib.Omega.{arith}
 use lib.Dec.{eqb}
@@ -10,15 +11,16 @@ use lib.Seq.{drop_at}
 use borrow.Author.Tests.{eq-eqb, ne_eqb, eqb-true}
 use Rattle.basics.specs.Columns.{cells}
 use Rattle.basics.specs.Sets.{member}
+use mir.Val.{bool_byte}
+use Rattle.uax29.proofs.Bits.{bit}
 use Rattle.basics.proofs.Columns.{Written, written_cell, written_more, cells_same, cells_length}
 use Rattle.basics.proofs.Tests.{by_test, neither}
 use Rattle.classes.specs.ClusterBreak as ClusterBreak
 use Rattle.records.specs.Text.{cell}
-use Rattle.records.specs.Refusals.{refusal, refuse, over, judge_lengths, judge_three}
+use Rattle.records.specs.Refusals.{refuse, judge_lengths}
 use Rattle.records.specs.declared.Side.TheVariants.{Record, Neither}
 use Rattle.records.specs.declared.Refusal.{Refusal}
-use Rattle.records.specs.declared.Verdict.{Verdict}
-use Rattle.records.specs.declared.Verdict.TheVariants.{Accepted, Refused}
+use Rattle.records.specs.Verdict.{Verdict}
 use Rattle.records.proofs.Marks.{three_first}
 use Rattle.records.proofs.Verdicts.{unrefused, passes}
 use Rattle.records.proofs.Written.{ran_refused, ran_whole, ran_checked, ran_long}
@@ -81,10 +83,10 @@ module _ (edition : ℕ) (breaks marks conjuncts : List ℕ) (at : ℕ) where
       ∙ ap (λ c. cond c 0 (cond (boundary_at breaks marks at) 1 0)) (conjoined_column breaks marks conjuncts at l))
 
   -- as the code decides it: b is the boundary of 15.0, s its number
-  module _ (b : Bool) (s : ℕ) (eb : b ≡ boundary_at breaks marks at) (es : s ≡ cond b 1 0) where
+  module _ (b : Bool) (s : ℕ) (eb : b ≡ boundary_at breaks marks at) (es : s ≡ bool_byte b) where
     number : s ≡ start_at breaks marks at
     unfolding start_at
-    number = es ∙ ap (λ t. cond t 1 0) eb
+    number = es ∙ bit b ∙ ap (λ t. cond t 1 0) eb
 
     pub place_other : (edition ≡ 151 → ⊥) → s ≡ start_in edition breaks marks conjuncts at
     place_other n = number ∙ sym (start_other n)
@@ -94,24 +96,8 @@ module _ (edition : ℕ) (breaks marks conjuncts : List ℕ) (at : ℕ) where
 
 -- # The check
 
-module _ (edition : ℕ) (breaks marks conjuncts : List ℕ) (u : Bool) (e : u ≡ unknown edition) where
-  pub edition_unknown : (q : Verdict) → u ≡ true → q ≡ Refused (refusal 15 Neither 0) → q ≡ edition_check edition breaks marks conjuncts
-  unfolding edition_check
-  edition_unknown q h k = rw (← e, h) k
-
-  module _ (known : u ≡ false) (v : Verdict) (f : v ≡ judge_lengths (length breaks ∷ length conjuncts ∷ length marks ∷ []) []) where
-    pub edition_shape : (r : Refusal) → v ≡ Refused r → v ≡ edition_check edition breaks marks conjuncts
-    unfolding edition_check
-    edition_shape r h = rw (← e, known, ← f, h)
-
-    pub edition_codes : (q : Verdict) → v ≡ Accepted
-        → q ≡ over (λ i. judge_three ClusterBreak.len Conjunct.len (cell breaks i) (cell conjuncts i) (cell marks i) i) 0 (length breaks)
-        → q ≡ edition_check edition breaks marks conjuncts
-    unfolding edition_check
-    edition_codes q h k = rw (← e, known, ← f, h) k
-
 -- what it accepts, the check of 15.0 accepts
-pub graphemes_accepted : (edition : ℕ) (breaks marks conjuncts : List ℕ) → edition_check edition breaks marks conjuncts ≡ Accepted → grapheme_check breaks marks ≡ Accepted
+pub graphemes_accepted : (edition : ℕ) (breaks marks conjuncts : List ℕ) → edition_check edition breaks marks conjuncts ≡ Ok tt → grapheme_check breaks marks ≡ Ok tt
 unfolding edition_check
 graphemes_accepted edition breaks marks conjuncts h =
     let p = (passes (refuse (unknown edition) 15 Neither 0) _ h).1 in
@@ -124,16 +110,16 @@ module _ (edition : ℕ) (breaks marks conjuncts out : List ℕ) (v : Verdict) (
   abbrev Ran : Verdict → List ℕ → Type 0
   Ran r cells = (r ≡ edition_verdict edition breaks marks conjuncts (length out)) × (cells ≡ edition_cells edition breaks marks conjuncts out)
 
-  pub run_refused : (r : Refusal) → v ≡ Refused r → Ran v out
+  pub run_refused : (r : Refusal) → v ≡ Err r → Ran v out
   run_refused r h = ran_refused (start_in edition breaks marks conjuncts) (length breaks) out (edition_check edition breaks marks conjuncts) (edition_check edition breaks marks conjuncts) v refl e r h
 
-  pub run_whole : (cells : List ℕ) → v ≡ Accepted → Written (start_in edition breaks marks conjuncts) out (length breaks) cells → Ran Accepted cells
+  pub run_whole : (cells : List ℕ) → v ≡ Ok tt → Written (start_in edition breaks marks conjuncts) out (length breaks) cells → Ran (Ok tt) cells
   run_whole cells h k = ran_whole (start_in edition breaks marks conjuncts) (length breaks) out (edition_check edition breaks marks conjuncts) (edition_check edition breaks marks conjuncts) v refl e cells h k
 
-  pub run_checked : v ≡ Accepted → grapheme_check breaks marks ≡ Accepted
+  pub run_checked : v ≡ Ok tt → grapheme_check breaks marks ≡ Ok tt
   run_checked h = graphemes_accepted edition breaks marks conjuncts (ran_checked (start_in edition breaks marks conjuncts) (length breaks) out (edition_check edition breaks marks conjuncts) (edition_check edition breaks marks conjuncts) v refl e h)
 
-  pub run_long : v ≡ Accepted → length breaks ≤ length out
+  pub run_long : v ≡ Ok tt → length breaks ≤ length out
   run_long h = ran_long (start_in edition breaks marks conjuncts) (length breaks) out (edition_check edition breaks marks conjuncts) (edition_check edition breaks marks conjuncts) v refl e h
 
 -- forward: out₁ is what 15.0 wrote, out₂ what GB9c left of it
@@ -196,34 +182,32 @@ module _ (s : EditionState) (kind marked conjunct : ℕ) (good : bad_state_in s 
       ∙ ap (λ k. starts s.graphemes (item_of kind marked conjunct) && k) link_asked
       ∙ ap (λ b. b && not (conjoins s.link.linked conjunct s.graphemes.previous kind)) (starts_blind s.graphemes kind marked conjunct)
 
-module _ (edition : ℕ) (s : EditionState) (kind marked conjunct : ℕ) (good : bad_state_in s ≡ false) (b : Bool) (n : ℕ) (eb : b ≡ starts s.graphemes (item kind marked)) (en : n ≡ cond b 1 0) where
+module _ (edition : ℕ) (s : EditionState) (kind marked conjunct : ℕ) (good : bad_state_in s ≡ false) (b : Bool) (n : ℕ) (eb : b ≡ starts s.graphemes (item kind marked)) (en : n ≡ bool_byte b) where
   pub answer_other : (edition ≡ 151 → ⊥) → n ≡ cond (starts_in edition s (item_of kind marked conjunct)) 1 0
   unfolding starts_in kept_in
   answer_other h =
       let same : starts s.graphemes (item kind marked) ≡ decide (kept_rules s.graphemes) (near s.graphemes) (item_of kind marked conjunct ∷ []) =
       unfold starts in sym (starts_blind s.graphemes kind marked conjunct) in
-      rw (ne_eqb edition 151 h) (en ∙ ap (λ t. cond t 1 0) (eb ∙ same))
+      rw (ne_eqb edition 151 h) (en ∙ bit b ∙ ap (λ t. cond t 1 0) (eb ∙ same))
 
   pub answer_151 : (j : Bool) (q : ℕ) → edition ≡ 151 → j ≡ conjoins s.link.linked conjunct s.graphemes.previous kind → q ≡ cond j 0 n → q ≡ cond (starts_in edition s (item_of kind marked conjunct)) 1 0
-  answer_151 j q e f g = g ∙ rw (e, f, en, eb) (sym (ap (λ t. cond t 1 0) (starts_151 s kind marked conjunct good) ∙ taken_start (starts s.graphemes (item kind marked)) (conjoins s.link.linked conjunct s.graphemes.previous kind)))
+  answer_151 j q e f g = g ∙ rw (e, f, en, bit b, eb) (sym (ap (λ t. cond t 1 0) (starts_151 s kind marked conjunct good) ∙ taken_start (starts s.graphemes (item kind marked)) (conjoins s.link.linked conjunct s.graphemes.previous kind)))
 
 -- v is what the judge said
 module _ (edition : ℕ) (s : EditionState) (kind marked conjunct : ℕ) (v : Verdict) (e : v ≡ step_verdict_in edition s kind marked conjunct) where
-  pub step_refused : (r : Refusal) → v ≡ Refused r → record { state = s; answer = 0; verdict = v } ≡ step_in edition s kind marked conjunct
+  pub step_refused : (r : Refusal) → v ≡ Err r → record { state = s; answer = 0; verdict = v } ≡ step_in edition s kind marked conjunct
   step_refused r h = rw (← e, h)
 
-  pub step_good : v ≡ Accepted → bad_state_in s ≡ false
+  pub step_good : v ≡ Ok tt → bad_state_in s ≡ false
   unfolding step_verdict_in
   step_good h =
       let p = (passes (refuse (unknown edition) 15 Neither 0) _ (sym e ∙ h)).1 in
       unrefused _ 8 Neither 0 (passes (refuse (bad_record_in kind marked conjunct) 4 Record 0) (refuse (bad_state_in s) 8 Neither 0) p).1
 
-  pub step_passed : (t : EditionState) (answer : ℕ) → v ≡ Accepted → t ≡ advance_in s (item_of kind marked conjunct) → answer ≡ cond (starts_in edition s (item_of kind marked conjunct)) 1 0
-      → record { state = t; answer = answer; verdict = Accepted } ≡ step_in edition s kind marked conjunct
+  pub step_passed : (t : EditionState) (answer : ℕ) → v ≡ Ok tt → t ≡ advance_in s (item_of kind marked conjunct) → answer ≡ cond (starts_in edition s (item_of kind marked conjunct)) 1 0
+      → record { state = t; answer = answer; verdict = Ok tt } ≡ step_in edition s kind marked conjunct
   step_passed t answer h f g = rw (← e, h, g, f)
 
-pub unknown_first : (edition : ℕ) → edition ≡ 150 → false ≡ unknown edition
-unknown_first edition e = rw e
+pub ruleset answers_in = (answer_151, answer_other)
 
-pub unknown_later : (edition : ℕ) (r : Bool) → (edition ≡ 150 → ⊥) → r ≡ not (eqb edition 151) → r ≡ unknown edition
-unknown_later edition r n e = e ∙ rw (ne_eqb edition 150 n, or-false (eqb edition 151))
+pub ruleset places_in = (place_151, place_other)

@@ -113,10 +113,6 @@ module _ (breaks marks conjuncts : List ℕ) (at : ℕ) where
       ∙ rw (unasked (length breaks - at) (ap (λ c. eqb c Consonant) e), and-false (GB9c.before (before_in breaks marks conjuncts at)), and-true (boundary_at breaks marks at)) (sym (boundary_other 150 refl))
 
 -- what GB9c needs to know of what came before, kept record by record
-pub begun_next : (x : Item) (xs : List Item) → begun (x ∷ xs) ≡ (conjunct_is Consonant x || joining x && begun xs)
-unfolding begun many one
-begun_next x xs = refl
-
 pub linked_next : (x : Item) (xs : List Item) → GB9c.before (x ∷ xs) ≡ (conjunct_is Linker x && begun xs || joining x && GB9c.before xs)
 unfolding GB9c many next
 linked_next x xs = refl

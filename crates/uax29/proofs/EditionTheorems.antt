@@ -1,4 +1,5 @@
 -- What is true of every run of clusters by an edition (SCOPE 12.6), and of its step. Assumes nothing.
+use Rattle.std.specs.Prelude.{Ok, Err}
 use Prim.Native.Nat.{ℕ, zero, suc, ◌+◌, ◌-◌, ◌<◌, ◌≤◌}
 use mathlib.Core.Path.{◌≡◌, refl, sym, ◌∙◌, ap}
 use mathlib.Core.Bool.{Bool, true, false, cond, not, ◌&&◌, ◌||◌, and-false}
@@ -19,8 +20,7 @@ use Rattle.records.specs.Offences.{room_line, ByTable}
 use Rattle.records.specs.Written.{roomy, written_under}
 use Rattle.records.specs.declared.Refusal.{Refusal}
 use Rattle.records.specs.declared.Side.TheVariants.{Record, Neither}
-use Rattle.records.specs.declared.Verdict.{Verdict}
-use Rattle.records.specs.declared.Verdict.TheVariants.{Accepted, Refused}
+use Rattle.records.specs.Verdict.{Verdict}
 use Rattle.records.proofs.Marks.{three_listed}
 use Rattle.records.proofs.Judged.{alone, over_same}
 use Rattle.records.proofs.Tables.{by_table}
@@ -42,6 +42,7 @@ use Rattle.uax29.specs.EditionRefusals.{edition_table, edition_step_table}
 use Rattle.uax29.specs.declared.editions.EditionState.{EditionState}
 use Rattle.uax29.specs.declared.editions.EditionStep.{EditionStep}
 use Rattle.uax29.proofs.EditionRules.{none_new, none_asked}
+use Rattle.uax29.proofs.Bits.{bit}
 use Rattle.uax29.proofs.EditionLaws.{graphemes_accepted, begun_column, linked_column, start_other, start_151, answer_other, answer_151}
 use Rattle.uax29.proofs.GraphemeSummary.{summary_none, summary_more, state_at, start_is}
 use Rattle.uax29.proofs.GraphemeStanding.{states_stand}
@@ -59,14 +60,14 @@ module _ (edition : ℕ) (breaks marks conjuncts out : List ℕ) where
   edition_engines_agree r q back forward a b =
       Written.ran_unique (start_in edition breaks marks conjuncts) (length breaks) out (edition_verdict edition breaks marks conjuncts (length out)) r q back forward a b
 
-  pub edition_refused_keeps : (r : Refusal) → edition_verdict edition breaks marks conjuncts (length out) ≡ Refused r → edition_cells edition breaks marks conjuncts out ≡ out
+  pub edition_refused_keeps : (r : Refusal) → edition_verdict edition breaks marks conjuncts (length out) ≡ Err r → edition_cells edition breaks marks conjuncts out ≡ out
   edition_refused_keeps r e = rw e
 
-  pub edition_record_cell : (i : ℕ) → i < length breaks → edition_verdict edition breaks marks conjuncts (length out) ≡ Accepted → cell (edition_cells edition breaks marks conjuncts out) i ≡ start_in edition breaks marks conjuncts i
+  pub edition_record_cell : (i : ℕ) → i < length breaks → edition_verdict edition breaks marks conjuncts (length out) ≡ Ok tt → cell (edition_cells edition breaks marks conjuncts out) i ≡ start_in edition breaks marks conjuncts i
   edition_record_cell i h e =
       Written.record_cell (start_in edition breaks marks conjuncts) (length breaks) out (edition_verdict edition breaks marks conjuncts (length out)) i h e
 
-  pub edition_later_cell : (k : ℕ) → edition_verdict edition breaks marks conjuncts (length out) ≡ Accepted → cell (edition_cells edition breaks marks conjuncts out) (length breaks + k) ≡ cell out (length breaks + k)
+  pub edition_later_cell : (k : ℕ) → edition_verdict edition breaks marks conjuncts (length out) ≡ Ok tt → cell (edition_cells edition breaks marks conjuncts out) (length breaks + k) ≡ cell out (length breaks + k)
   edition_later_cell k e =
       Written.later_cell (start_in edition breaks marks conjuncts) (length breaks) out (edition_verdict edition breaks marks conjuncts (length out)) k e
 
@@ -99,8 +100,8 @@ same_verdict breaks marks conjuncts room =
 
 -- the same answers, the same column
 written_same : (v : Verdict) (f g : ℕ → ℕ) (n : ℕ) (out : List ℕ) → cells f n ≡ cells g n → written_under v f n out ≡ written_under v g n out
-written_same Accepted f g n out e = rw e
-written_same (Refused r) f g n out e = refl
+written_same (Ok _) f g n out e = rw e
+written_same (Err r) f g n out e = refl
 
 -- and so do the runs: the same verdict, and the same cells of the lent column
 pub same_runs : (breaks marks conjuncts out : List ℕ) → ((i : ℕ) → i < length breaks → cell conjuncts i ≡ 0)
@@ -110,16 +111,16 @@ same_runs breaks marks conjuncts out none =
     (v, ap (λ w. written_under w (start_in 151 breaks marks conjuncts) (length breaks) out) v ∙ written_same (edition_verdict 150 breaks marks conjuncts (length out)) _ _ (length breaks) out (same_answers breaks marks conjuncts none))
 
 -- what 15.0 leaves in the column is what the run of 12.5 leaves, on every text that is accepted here
-pub cells_150 : (breaks marks conjuncts out : List ℕ) → edition_verdict 150 breaks marks conjuncts (length out) ≡ Accepted → edition_cells 150 breaks marks conjuncts out ≡ grapheme_cells breaks marks out
+pub cells_150 : (breaks marks conjuncts out : List ℕ) → edition_verdict 150 breaks marks conjuncts (length out) ≡ Ok tt → edition_cells 150 breaks marks conjuncts out ≡ grapheme_cells breaks marks out
 cells_150 breaks marks conjuncts out h =
     let p = passes (edition_check 150 breaks marks conjuncts) _ h in
-    let e : grapheme_verdict breaks marks (length out) ≡ Accepted = rw (graphemes_accepted 150 breaks marks conjuncts p.0) p.1 in
+    let e : grapheme_verdict breaks marks (length out) ≡ (Ok tt) = rw (graphemes_accepted 150 breaks marks conjuncts p.0) p.1 in
     rw (h, e) (rw (cells_same (start_in 150 breaks marks conjuncts) (start_at breaks marks) (length breaks) (λ i k. start_150 breaks marks conjuncts i)))
 
 -- # The refusals, each exactly where its line holds
 
 -- the lines one after the other, where o is what is said of the records and d what comes behind
-four : (a b c : Bool) (o d : Verdict) → (refuse a 15 Neither 0 ⊳ (refuse b 1 Neither 0 ⊳ refuse c 2 Neither 0) ⊳ o) ⊳ d ≡ (refuse a 15 Neither 0 ⊳ refuse b 1 Neither 0 ⊳ refuse c 2 Neither 0 ⊳ Accepted) ⊳ Accepted ⊳ o ⊳ d
+four : (a b c : Bool) (o d : Verdict) → (refuse a 15 Neither 0 ⊳ (refuse b 1 Neither 0 ⊳ refuse c 2 Neither 0) ⊳ o) ⊳ d ≡ (refuse a 15 Neither 0 ⊳ refuse b 1 Neither 0 ⊳ refuse c 2 Neither 0 ⊳ (Ok tt)) ⊳ (Ok tt) ⊳ o ⊳ d
 four true b c o d = refl
 four false true c o d = refl
 four false false true o d = refl
@@ -133,20 +134,20 @@ module _ (edition : ℕ) (breaks marks conjuncts : List ℕ) where
   lengths = length breaks ∷ length conjuncts ∷ length marks ∷ []
 
   lines_are : (d : Verdict) → edition_check edition breaks marks conjuncts ⊳ d
-      ≡ (refuse (unknown edition) 15 Neither 0 ⊳ refuse (too_long lengths || false) 1 Neither 0 ⊳ refuse (uneven lengths || false) 2 Neither 0 ⊳ Accepted)
-      ⊳ Accepted ⊳ over (λ i. judge i ⊳ Accepted) 0 (length breaks) ⊳ d
+      ≡ (refuse (unknown edition) 15 Neither 0 ⊳ refuse (too_long lengths || false) 1 Neither 0 ⊳ refuse (uneven lengths || false) 2 Neither 0 ⊳ (Ok tt))
+      ⊳ (Ok tt) ⊳ over (λ i. judge i ⊳ (Ok tt)) 0 (length breaks) ⊳ d
   unfolding edition_check judge_lengths judge lengths
   lines_are d =
       ap (λ o. (refuse (unknown edition) 15 Neither 0 ⊳ (refuse (too_long lengths || false) 1 Neither 0 ⊳ refuse (uneven lengths || false) 2 Neither 0) ⊳ o) ⊳ d)
-      (over_same judge (λ i. judge i ⊳ Accepted) (λ i. sym (alone (judge i))) (length breaks) 0)
-      ∙ four (unknown edition) (too_long lengths || false) (uneven lengths || false) (over (λ i. judge i ⊳ Accepted) 0 (length breaks)) d
+      (over_same judge (λ i. judge i ⊳ (Ok tt)) (λ i. sym (alone (judge i))) (length breaks) 0)
+      ∙ four (unknown edition) (too_long lengths || false) (uneven lengths || false) (over (λ i. judge i ⊳ (Ok tt)) 0 (length breaks)) d
 
   -- The check's: 15, 1, 2 and 4, in this order.
   pub edition_check_by_table : ByTable (15 ∷ 1 ∷ 2 ∷ 4 ∷ []) (edition_table edition breaks marks conjuncts []) (edition_check edition breaks marks conjuncts)
   unfolding judge lengths judge_three over
   edition_check_by_table =
       by_table _ (edition_table edition breaks marks conjuncts []) (record { before = refl; parts = λ i. refl; records = λ i. refl; after = refl })
-      (edition_check edition breaks marks conjuncts) (sym (alone (edition_check edition breaks marks conjuncts)) ∙ lines_are Accepted)
+      (edition_check edition breaks marks conjuncts) (sym (alone (edition_check edition breaks marks conjuncts)) ∙ lines_are (Ok tt))
 
   -- The runs': 9 behind them.
   pub edition_run_by_table : (room : ℕ) → ByTable (15 ∷ 1 ∷ 2 ∷ 4 ∷ 9 ∷ []) (edition_table edition breaks marks conjuncts (room_line breaks room ∷ [])) (edition_verdict edition breaks marks conjuncts room)
@@ -154,18 +155,18 @@ module _ (edition : ℕ) (breaks marks conjuncts : List ℕ) where
   edition_run_by_table room =
       by_table _ (edition_table edition breaks marks conjuncts (room_line breaks room ∷ [])) (record { before = refl; parts = λ i. refl; records = λ i. refl; after = refl })
       (edition_verdict edition breaks marks conjuncts room)
-      (ap (λ d. edition_check edition breaks marks conjuncts ⊳ d) (sym (alone (refuse (ltb room (length breaks)) 9 Neither 0))) ∙ lines_are (refuse (ltb room (length breaks)) 9 Neither 0 ⊳ Accepted))
+      (ap (λ d. edition_check edition breaks marks conjuncts ⊳ d) (sym (alone (refuse (ltb room (length breaks)) 9 Neither 0))) ∙ lines_are (refuse (ltb room (length breaks)) 9 Neither 0 ⊳ (Ok tt)))
 
 module _ (edition : ℕ) (s : EditionState) (kind marked conjunct : ℕ) where
-  step_lines : (a b c : Bool) → refuse a 15 Neither 0 ⊳ refuse b 4 Record 0 ⊳ refuse c 8 Neither 0 ≡ (refuse a 15 Neither 0 ⊳ Accepted) ⊳ Accepted ⊳ ((refuse b 4 Record 0 ⊳ Accepted) ⊳ Accepted) ⊳ refuse c 8 Neither 0 ⊳ Accepted
+  step_lines : (a b c : Bool) → refuse a 15 Neither 0 ⊳ refuse b 4 Record 0 ⊳ refuse c 8 Neither 0 ≡ (refuse a 15 Neither 0 ⊳ (Ok tt)) ⊳ (Ok tt) ⊳ ((refuse b 4 Record 0 ⊳ (Ok tt)) ⊳ (Ok tt)) ⊳ refuse c 8 Neither 0 ⊳ (Ok tt)
   step_lines true b c = refl
   step_lines false true c = refl
   step_lines false false true = refl
   step_lines false false false = refl
 
   step_says : (v : Verdict) → (step_under_in v edition s kind marked conjunct).verdict ≡ v
-  step_says Accepted = refl
-  step_says (Refused r) = refl
+  step_says (Ok _) = refl
+  step_says (Err r) = refl
 
   -- The step's: 15, 4 of the record, index 0, and 8.
   pub edition_step_by_table : ByTable (15 ∷ 4 ∷ 8 ∷ []) (edition_step_table edition s kind marked conjunct) (step_in edition s kind marked conjunct).verdict
@@ -211,9 +212,9 @@ module _ (breaks marks conjuncts : List ℕ) where
       ∙ sym (summary_more (item_in breaks marks [] i) (before_in breaks marks [] i))
 
 -- a text that the check accepts
-module _ (edition : ℕ) (breaks marks conjuncts : List ℕ) (accepted : edition_check edition breaks marks conjuncts ≡ Accepted) where
-  check_parts : (unknown edition ≡ false) × ((judge_lengths (length breaks ∷ length conjuncts ∷ length marks ∷ []) [] ≡ Accepted)
-      × (over (λ i. judge_three ClusterBreak.len Conjunct.len (cell breaks i) (cell conjuncts i) (cell marks i) i) 0 (length breaks) ≡ Accepted))
+module _ (edition : ℕ) (breaks marks conjuncts : List ℕ) (accepted : edition_check edition breaks marks conjuncts ≡ Ok tt) where
+  check_parts : (unknown edition ≡ false) × ((judge_lengths (length breaks ∷ length conjuncts ∷ length marks ∷ []) [] ≡ Ok tt)
+      × (over (λ i. judge_three ClusterBreak.len Conjunct.len (cell breaks i) (cell conjuncts i) (cell marks i) i) 0 (length breaks) ≡ Ok tt))
   unfolding edition_check
   check_parts =
       let p = passes (refuse (unknown edition) 15 Neither 0) _ accepted in
@@ -222,7 +223,7 @@ module _ (edition : ℕ) (breaks marks conjuncts : List ℕ) (accepted : edition
   listed : (i : ℕ) → i < length breaks → (leb ClusterBreak.len (cell breaks i) ≡ false) × ((leb Conjunct.len (cell conjuncts i) ≡ false) × (leb 2 (cell marks i) ≡ false))
   listed i h = three_listed ClusterBreak.len Conjunct.len breaks conjuncts marks check_parts.1.0 check_parts.1.1 i h
 
-  fine : grapheme_check breaks marks ≡ Accepted
+  fine : grapheme_check breaks marks ≡ Ok tt
   fine = graphemes_accepted edition breaks marks conjuncts accepted
 
   link_good : (i : ℕ) → i ≤ length breaks → bad_link (state_of breaks marks conjuncts i).link (state_of breaks marks conjuncts i).graphemes.previous ≡ false
@@ -246,7 +247,7 @@ module _ (edition : ℕ) (breaks marks conjuncts : List ℕ) (accepted : edition
       unfold summary_in in ap Graphemes.bad_state (state_blind breaks marks conjuncts i) ∙ (states_stand breaks marks fine i h).good in
       rw (g, link_good i h)
 
-  step_accepts : (i : ℕ) → i < length breaks → step_verdict_in edition (state_of breaks marks conjuncts i) (cell breaks i) (cell marks i) (cell conjuncts i) ≡ Accepted
+  step_accepts : (i : ℕ) → i < length breaks → step_verdict_in edition (state_of breaks marks conjuncts i) (cell breaks i) (cell marks i) (cell conjuncts i) ≡ Ok tt
   unfolding step_verdict_in
   step_accepts i h = rw (check_parts.0, (listed i h).0, (listed i h).1.0, (listed i h).1.1, edition_state_good i (omega arith))
 
@@ -267,18 +268,18 @@ module _ (edition : ℕ) (breaks marks conjuncts : List ℕ) (accepted : edition
       let known : start_at breaks marks i ≡ cond b 1 0 =
       start_is breaks marks fine i h ∙ (unfold summary_in in ap (λ t. cond (starts t (Graphemes.item (cell breaks i) (cell marks i))) 1 0) (sym (state_blind breaks marks conjuncts i))) in
       by_test (eqb edition 151)
-      (λ k. answer_151 edition s (cell breaks i) (cell marks i) (cell conjuncts i) good b (start_at breaks marks i) refl known (conjoined_at breaks conjuncts i) _ (eqb-true _ _ k) (taken_alike i)
+      (λ k. answer_151 edition s (cell breaks i) (cell marks i) (cell conjuncts i) good b (start_at breaks marks i) refl (known ∙ sym (bit b)) (conjoined_at breaks conjuncts i) _ (eqb-true _ _ k) (taken_alike i)
       (start_151 edition breaks marks conjuncts i (eqb-true _ _ k) h))
-      (λ k. start_other edition breaks marks conjuncts i (eqb-false _ _ k) ∙ answer_other edition s (cell breaks i) (cell marks i) (cell conjuncts i) good b (start_at breaks marks i) refl known (eqb-false _ _ k))
+      (λ k. start_other edition breaks marks conjuncts i (eqb-false _ _ k) ∙ answer_other edition s (cell breaks i) (cell marks i) (cell conjuncts i) good b (start_at breaks marks i) refl (known ∙ sym (bit b)) (eqb-false _ _ k))
 
-  step_is : (v : Verdict) (s t : EditionState) (kind marked conjunct answer : ℕ) → v ≡ Accepted → t ≡ advance_in s (item_of kind marked conjunct) → answer ≡ cond (starts_in edition s (item_of kind marked conjunct)) 1 0
-      → step_under_in v edition s kind marked conjunct ≡ record { state = t; answer = answer; verdict = Accepted }
+  step_is : (v : Verdict) (s t : EditionState) (kind marked conjunct answer : ℕ) → v ≡ Ok tt → t ≡ advance_in s (item_of kind marked conjunct) → answer ≡ cond (starts_in edition s (item_of kind marked conjunct)) 1 0
+      → step_under_in v edition s kind marked conjunct ≡ record { state = t; answer = answer; verdict = Ok tt }
   step_is v s t kind marked conjunct answer e f g = rw (e, f, g)
 
   -- The step, refusals and all, leads from the state before a record to the one after it and gives the answer of the edition's rules.
   pub edition_fold : (i : ℕ) → i < length breaks
       → step_in edition (state_of breaks marks conjuncts i) (cell breaks i) (cell marks i) (cell conjuncts i)
-      ≡ record { state = state_of breaks marks conjuncts (i + 1); answer = start_in edition breaks marks conjuncts i; verdict = Accepted }
+      ≡ record { state = state_of breaks marks conjuncts (i + 1); answer = start_in edition breaks marks conjuncts i; verdict = Ok tt }
   edition_fold i h =
       step_is (step_verdict_in edition (state_of breaks marks conjuncts i) (cell breaks i) (cell marks i) (cell conjuncts i)) (state_of breaks marks conjuncts i) (state_of breaks marks conjuncts (i + 1)) (cell breaks i) (cell marks i) (cell conjuncts i) (start_in edition breaks marks conjuncts i)
       (step_accepts i h) (state_more_in breaks marks conjuncts i) (answer_is i h)

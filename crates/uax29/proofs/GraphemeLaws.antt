@@ -1,4 +1,5 @@
 -- What is true of every run of clusters (SCOPE 12.5), and of its step. Assumes nothing.
+use Rattle.std.specs.Prelude.{Ok, Err}
 use Prim.Native.Nat.{ℕ, ◌+◌, ◌<◌, ◌≤◌}
 use mathlib.Core.Path.{◌≡◌, refl, ◌∙◌, ap}
 use mathlib.Core.Bool.{Bool, true, false, cond}
@@ -12,8 +13,7 @@ use Rattle.records.specs.Refusals.{refuse, ◌⊳◌, over}
 use Rattle.records.specs.Offences.{marked_table_of, room_line, ByTable}
 use Rattle.records.specs.declared.Refusal.{Refusal}
 use Rattle.records.specs.declared.Side.TheVariants.{Record, Neither}
-use Rattle.records.specs.declared.Verdict.{Verdict}
-use Rattle.records.specs.declared.Verdict.TheVariants.{Accepted, Refused}
+use Rattle.records.specs.Verdict.{Verdict}
 use Rattle.records.proofs.Judged.{marked_by_table, marked_run_by_table}
 use Rattle.records.proofs.Marks.{fine}
 use Rattle.records.proofs.Tables.{first_of, by_table}
@@ -44,13 +44,13 @@ module _ (breaks marks out : List ℕ) where
   engines_agree = grapheme_run_unique
 
   -- The cells: with a refusal as they were, else a record's cell has its answer, and a cell past the records is as it was.
-  pub refused_keeps : (r : Refusal) → grapheme_verdict breaks marks (length out) ≡ Refused r → grapheme_cells breaks marks out ≡ out
+  pub refused_keeps : (r : Refusal) → grapheme_verdict breaks marks (length out) ≡ Err r → grapheme_cells breaks marks out ≡ out
   refused_keeps r e = Written.refused_keeps (start_at breaks marks) (length breaks) out (grapheme_verdict breaks marks (length out)) r e
 
-  pub record_cell : (i : ℕ) → i < length breaks → grapheme_verdict breaks marks (length out) ≡ Accepted → cell (grapheme_cells breaks marks out) i ≡ start_at breaks marks i
+  pub record_cell : (i : ℕ) → i < length breaks → grapheme_verdict breaks marks (length out) ≡ Ok tt → cell (grapheme_cells breaks marks out) i ≡ start_at breaks marks i
   record_cell i h e = Written.record_cell (start_at breaks marks) (length breaks) out (grapheme_verdict breaks marks (length out)) i h e
 
-  pub later_cell : (k : ℕ) → grapheme_verdict breaks marks (length out) ≡ Accepted → cell (grapheme_cells breaks marks out) (length breaks + k) ≡ cell out (length breaks + k)
+  pub later_cell : (k : ℕ) → grapheme_verdict breaks marks (length out) ≡ Ok tt → cell (grapheme_cells breaks marks out) (length breaks + k) ≡ cell out (length breaks + k)
   later_cell k e = Written.later_cell (start_at breaks marks) (length breaks) out (grapheme_verdict breaks marks (length out)) k e
 
 pub grapheme_check_unique : (breaks marks : List ℕ) (a b : Verdict) → a ≡ grapheme_check breaks marks → b ≡ grapheme_check breaks marks → a ≡ b
@@ -66,23 +66,23 @@ pub begins : (breaks marks : List ℕ) → state_at breaks marks 0 ≡ start_sta
 unfolding before_in
 begins breaks marks = summary_none
 
-step_is : (v : Verdict) (s t : GraphemeState) (kind marked answer : ℕ) → v ≡ Accepted → t ≡ advance s (item kind marked) → answer ≡ cond (starts s (item kind marked)) 1 0
-    → step_under v s kind marked ≡ record { state = t; answer = answer; verdict = Accepted }
+step_is : (v : Verdict) (s t : GraphemeState) (kind marked answer : ℕ) → v ≡ Ok tt → t ≡ advance s (item kind marked) → answer ≡ cond (starts s (item kind marked)) 1 0
+    → step_under v s kind marked ≡ record { state = t; answer = answer; verdict = Ok tt }
 step_is v s t kind marked answer e f g = rw (e, f, g)
 
 -- a text that the check accepts
-module _ (breaks marks : List ℕ) (accepted : grapheme_check breaks marks ≡ Accepted) where
+module _ (breaks marks : List ℕ) (accepted : grapheme_check breaks marks ≡ Ok tt) where
   -- its states are never bad ones: 8 is never met
   pub state_good : (i : ℕ) → i ≤ length breaks → bad_state (state_at breaks marks i) ≡ false
   state_good i h = (states_stand breaks marks accepted i h).good
 
-  step_accepts : (i : ℕ) → i < length breaks → step_verdict (state_at breaks marks i) (cell breaks i) (cell marks i) ≡ Accepted
+  step_accepts : (i : ℕ) → i < length breaks → step_verdict (state_at breaks marks i) (cell breaks i) (cell marks i) ≡ Ok tt
   unfolding step_verdict
   step_accepts i h = rw ((fine len breaks marks accepted i h).0, (fine len breaks marks accepted i h).1, state_good i (omega arith))
 
   -- The step, refusals and all, leads from the state before a record to the one after it and gives the answer of the rules.
   pub graphemes_fold : (i : ℕ) → i < length breaks
-      → step_of (state_at breaks marks i) (cell breaks i) (cell marks i) ≡ record { state = state_at breaks marks (i + 1); answer = start_at breaks marks i; verdict = Accepted }
+      → step_of (state_at breaks marks i) (cell breaks i) (cell marks i) ≡ record { state = state_at breaks marks (i + 1); answer = start_at breaks marks i; verdict = Ok tt }
   graphemes_fold i h =
       step_is (step_verdict (state_at breaks marks i) (cell breaks i) (cell marks i)) (state_at breaks marks i) (state_at breaks marks (i + 1)) (cell breaks i) (cell marks i) (start_at breaks marks i)
       (step_accepts i h) (state_more breaks marks i) (start_is breaks marks accepted i h)
@@ -111,14 +111,14 @@ module _ (s : GraphemeState) (kind marked : ℕ) where
   unfolding step_verdict over
   step_lines = go (bad_record kind marked) (bad_state s)
     where
-      go : (a b : Bool) → refuse a 4 Record 0 ⊳ refuse b 8 Neither 0 ≡ ((refuse a 4 Record 0 ⊳ Accepted) ⊳ Accepted) ⊳ refuse b 8 Neither 0 ⊳ Accepted
+      go : (a b : Bool) → refuse a 4 Record 0 ⊳ refuse b 8 Neither 0 ≡ ((refuse a 4 Record 0 ⊳ (Ok tt)) ⊳ (Ok tt)) ⊳ refuse b 8 Neither 0 ⊳ (Ok tt)
       go true b = refl
       go false true = refl
       go false false = refl
 
   step_says : (v : Verdict) → (step_under v s kind marked).verdict ≡ v
-  step_says Accepted = refl
-  step_says (Refused r) = refl
+  step_says (Ok _) = refl
+  step_says (Err r) = refl
 
   -- The step's: 4 of the record, index 0, and 8.
   pub grapheme_step_by_table : ByTable (4 ∷ 8 ∷ []) (step_table s kind marked) (step_of s kind marked).verdict

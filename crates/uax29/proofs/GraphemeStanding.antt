@@ -1,4 +1,5 @@
 -- The table of the run that goes forward is its step: the row stands for the state after each record. Assumes nothing.
+use Rattle.std.specs.Prelude.{Ok}
 use Prim.Native.Nat.{ℕ, zero, suc, ◌+◌, ◌*◌, ◌/◌, ◌%◌, ◌<◌, ◌≤◌}
 use mathlib.Core.Path.{◌≡◌, refl, sym, ◌∙◌}
 use mathlib.Core.Bool.{Bool, true, false, cond, not, ◌&&◌, ◌||◌}
@@ -14,7 +15,6 @@ use Rattle.basics.proofs.Sets.{every_at}
 use Rattle.basics.proofs.Tests.{both, neither}
 use Rattle.classes.specs.ClusterBreak.{XX, RI, ZWJ, len}
 use Rattle.records.specs.Text.{cell}
-use Rattle.records.specs.declared.Verdict.TheVariants.{Accepted}
 use Rattle.records.proofs.Marks.{fine_class, fine_mark}
 use Rattle.uax29.specs.Clusters.{Item, is, is_not, among, pictographic, anything, edge, any, one, next, many, pairs, applies, decide, before_in, GB1, GB2, GB3, GB4, GB5, GB6, GB7, GB8, GB9, GB9a, GB9b, GB11, GB12, GB13, GB999}
 use Rattle.uax29.specs.Graphemes.{start_at, grapheme_check}
@@ -135,7 +135,7 @@ pub row_small : {s : GraphemeState} {row : ℕ} → Stands s row → row < 32
 row_small {s} h = rw h.in_row (row_below s h.good 0 0 (omega arith) (omega arith))
 
 -- at a record of an accepted text: k and m are its cells, and what is looked up for it has names
-module _ (breaks marks : List ℕ) (accepted : grapheme_check breaks marks ≡ Accepted) (i : ℕ) (inside : i < length breaks)
+module _ (breaks marks : List ℕ) (accepted : grapheme_check breaks marks ≡ Ok tt) (i : ℕ) (inside : i < length breaks)
     (row : ℕ) (stands : Stands (state_at breaks marks i) row) (found : ℕ) (ef : found ≡ cell_of (cell breaks i) (cell marks i)) where
   here : Turned (state_at breaks marks i) stands.good (cell breaks i) (cell marks i) (fine_class _ breaks marks accepted i inside) (fine_mark _ breaks marks accepted i inside)
   here = turned (state_at breaks marks i) stands.good (cell breaks i) (cell marks i) (fine_class _ breaks marks accepted i inside) (fine_mark _ breaks marks accepted i inside)
@@ -151,7 +151,7 @@ module _ (breaks marks : List ℕ) (accepted : grapheme_check breaks marks ≡ A
 
 -- # The states of accepted texts are those that are not bad
 
-pub states_stand : (breaks marks : List ℕ) → grapheme_check breaks marks ≡ Accepted → (i : ℕ) → i ≤ length breaks → Stands (state_at breaks marks i) (row_of (state_at breaks marks i))
+pub states_stand : (breaks marks : List ℕ) → grapheme_check breaks marks ≡ Ok tt → (i : ℕ) → i ≤ length breaks → Stands (state_at breaks marks i) (row_of (state_at breaks marks i))
 states_stand breaks marks accepted zero h = record { good = (start_stands breaks marks).good; in_row = refl }
 states_stand breaks marks accepted (suc i) h =
     let before = states_stand breaks marks accepted i (omega arith) in

@@ -1,6 +1,7 @@
 -- The state of the engine that goes forward has all that the rules ask of the records before a place: it is kept from record to record,
 -- and the rules asked of it are the rules.
 -- Assumes nothing.
+use Rattle.std.specs.Prelude.{Ok, Err}
 use Prim.Native.Nat.{ℕ, zero, suc, ◌+◌, ◌<◌, ◌≤◌}
 use mathlib.Core.Path.{◌≡◌, refl, sym, ◌∙◌, ap}
 use mathlib.Core.Bool.{Bool, true, false, cond, not, ◌&&◌, ◌||◌}
@@ -11,12 +12,13 @@ use lib.Dec.{eqb}
 use lib.ListN.{length, set}
 use borrow.Author.Tests.{eq-eqb, ne_eqb, le-ltb}
 use Rattle.basics.specs.Sets.{member}
+use mir.Val.{bool_byte}
+use Rattle.uax29.proofs.Bits.{bit}
 use Rattle.basics.proofs.Columns.{Written, written_more}
 use Rattle.classes.specs.ClusterBreak.{RI, PP}
 use Rattle.records.specs.Text.{cell}
 use Rattle.records.specs.declared.Refusal.{Refusal}
-use Rattle.records.specs.declared.Verdict.{Verdict}
-use Rattle.records.specs.declared.Verdict.TheVariants.{Accepted, Refused}
+use Rattle.records.specs.Verdict.{Verdict}
 use Rattle.records.proofs.Marks.{fine_class}
 use Rattle.records.proofs.Written.{ran_refused, ran_whole, ran_checked, ran_long}
 use Rattle.uax29.specs.Clusters.{Item, is, is_not, among, pictographic, anything, edge, any, one, next, many, pairs, applies, decide, item_at, before_in, before_of, after_of, rules, controls, boundary_at, GB1, GB2, GB3, GB4, GB5, GB6, GB7, GB8, GB9, GB9a, GB9b, GB11, GB12, GB13, GB999}
@@ -70,7 +72,7 @@ unfolding before_in
 state_more breaks marks i = ap (state_at breaks marks) (add-one i) ∙ summary_more (item_at breaks marks i) (before_of breaks marks i)
 
 -- an accepted text: its answers are those of the states
-module _ (breaks marks : List ℕ) (accepted : grapheme_check breaks marks ≡ Accepted) where
+module _ (breaks marks : List ℕ) (accepted : grapheme_check breaks marks ≡ Ok tt) where
   listed : (i : ℕ) → i ≤ length breaks → eqb (class_of (before_of breaks marks i)) no_class ≡ edge (before_of breaks marks i)
   unfolding before_in edge
   listed zero h = refl
@@ -86,7 +88,7 @@ module _ (breaks marks : List ℕ) (accepted : grapheme_check breaks marks ≡ A
 
 -- # The code of the step, and a turn of the engine that looks back
 
-pub starts_first : (s : GraphemeState) (kind marked : ℕ) → s.previous ≡ no_class → true ≡ starts s (item kind marked)
+pub starts_first : (s : GraphemeState) (kind marked : ℕ) → s.previous ≡ no_class → eqb s.previous no_class ≡ starts s (item kind marked)
 unfolding starts near kept_rules decide applies GB1 edge any
 starts_first s kind marked h = rw (eq-eqb s.previous no_class h)
 
@@ -98,19 +100,21 @@ pub starts_later : (s : GraphemeState) (kind marked : ℕ) (r : Bool) → (s.pre
 unfolding starts near kept_rules decide applies GB1 GB2 GB3 GB4 GB5 GB6 GB7 GB8 GB9 GB9a GB9b GB11 GB12 GB999 anything edge any one is among pictographic from_GB3 from_GB6 from_GB9 from_GB11
 starts_later s kind marked r n e = e ∙ rw (ne_eqb s.previous no_class n, and_all (member controls s.previous), and_all (eqb s.previous PP))
 
+pub ruleset starts_chain = (starts_first, starts_later)
+
 -- v is what the judge said
 module _ (s : GraphemeState) (kind marked : ℕ) (v : Verdict) (e : v ≡ step_verdict s kind marked) where
-  pub step_refused : (r : Refusal) → v ≡ Refused r → record { state = s; answer = 0; verdict = v } ≡ step_of s kind marked
+  pub step_refused : (r : Refusal) → v ≡ Err r → record { state = s; answer = 0; verdict = v } ≡ step_of s kind marked
   step_refused r h = rw (← e, h)
 
-  pub step_passed : (t : GraphemeState) (b : Bool) (answer : ℕ) → v ≡ Accepted → t ≡ advance s (item kind marked) → b ≡ starts s (item kind marked) → answer ≡ cond b 1 0
-      → record { state = t; answer = answer; verdict = Accepted } ≡ step_of s kind marked
-  step_passed t b answer h f g k = rw (← e, h, k, f, g)
+  pub step_passed : (t : GraphemeState) (b : Bool) (answer : ℕ) → v ≡ Ok tt → t ≡ advance s (item kind marked) → b ≡ starts s (item kind marked) → answer ≡ bool_byte b
+      → record { state = t; answer = answer; verdict = Ok tt } ≡ step_of s kind marked
+  step_passed t b answer h f g k = rw (← e, h, k, bit b, f, g)
 
-pub turn_decided : (breaks marks out₀ out : List ℕ) (i : ℕ) (b : Bool) (answer : ℕ) → b ≡ boundary_at breaks marks i → answer ≡ cond b 1 0 → i < length out₀
+pub turn_decided : (breaks marks out₀ out : List ℕ) (i : ℕ) (b : Bool) (answer : ℕ) → b ≡ boundary_at breaks marks i → answer ≡ bool_byte b → i < length out₀
     → Written (start_at breaks marks) out₀ i out → Written (start_at breaks marks) out₀ (i + 1) (set out i answer)
 turn_decided breaks marks out₀ out i b answer e f h cells =
-    let a : answer ≡ start_at breaks marks i = unfold start_at in f ∙ ap (λ t. cond t 1 0) e in
+    let a : answer ≡ start_at breaks marks i = unfold start_at in f ∙ bit b ∙ ap (λ t. cond t 1 0) e in
     rw a (written_more (start_at breaks marks) out₀ out i h cells)
 
 -- # How a run comes out, where v is what was said of the check and the room
@@ -119,14 +123,14 @@ module _ (breaks marks out : List ℕ) (v : Verdict) (e : v ≡ grapheme_verdict
   abbrev Ran : Verdict → List ℕ → Type 0
   Ran r cells = (r ≡ grapheme_verdict breaks marks (length out)) × (cells ≡ grapheme_cells breaks marks out)
 
-  pub run_refused : (r : Refusal) → v ≡ Refused r → Ran v out
+  pub run_refused : (r : Refusal) → v ≡ Err r → Ran v out
   run_refused r h = ran_refused (start_at breaks marks) (length breaks) out (grapheme_check breaks marks) (grapheme_check breaks marks) v refl e r h
 
-  pub run_whole : (cells : List ℕ) → v ≡ Accepted → Written (start_at breaks marks) out (length breaks) cells → Ran Accepted cells
+  pub run_whole : (cells : List ℕ) → v ≡ Ok tt → Written (start_at breaks marks) out (length breaks) cells → Ran (Ok tt) cells
   run_whole cells h k = ran_whole (start_at breaks marks) (length breaks) out (grapheme_check breaks marks) (grapheme_check breaks marks) v refl e cells h k
 
-  pub run_checked : v ≡ Accepted → grapheme_check breaks marks ≡ Accepted
+  pub run_checked : v ≡ Ok tt → grapheme_check breaks marks ≡ Ok tt
   run_checked h = ran_checked (start_at breaks marks) (length breaks) out (grapheme_check breaks marks) (grapheme_check breaks marks) v refl e h
 
-  pub run_long : v ≡ Accepted → length breaks ≤ length out
+  pub run_long : v ≡ Ok tt → length breaks ≤ length out
   run_long h = ran_long (start_at breaks marks) (length breaks) out (grapheme_check breaks marks) (grapheme_check breaks marks) v refl e h

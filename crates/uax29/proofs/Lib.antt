@@ -8,7 +8,8 @@ pub mod GraphemeSummary
 pub mod GraphemeStanding
 pub mod GraphemeLaws
 pub mod Links
+pub mod Bits
 pub mod Pairs
-pub mod WordsChain
 pub mod WordsRules
 pub mod WordsWalk
+pub mod Chain

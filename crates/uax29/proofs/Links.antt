@@ -1,7 +1,7 @@
 -- GB9c over the columns: what the code's tests of conjunct codes say, by looking back and going forward. Assumes nothing.
 use Prim.Native.Nat.{ℕ, zero, suc, ◌+◌, ◌-◌, ◌<◌, ◌≤◌}
 use mathlib.Core.Path.{◌≡◌, refl, sym, ◌∙◌, ap}
-use mathlib.Core.Bool.{Bool, true, false, cond, ◌&&◌, ◌||◌, or-false, and-false, and-true, false≢true}
+use mathlib.Core.Bool.{Bool, true, false, cond, ◌&&◌, ◌||◌, and-false, false≢true}
 use mathlib.Core.List.{List}
 use native.Mathlib.Numerals.{add-one}
 use native.Mathlib.Omega.{arith}
@@ -14,8 +14,7 @@ use Rattle.records.specs.Text.{cell}
 use Rattle.uax29.specs.Conjunct.{Consonant, Linker, Extend}
 use Rattle.uax29.specs.Editions.{joiners}
 use Rattle.uax29.specs.Conjoined.{begun_at, linked_at, conjoins, conjoined_at, taken_at}
-use Rattle.uax29.specs.EditionStep.{no_link, link_after, bad_link}
-use Rattle.uax29.specs.GraphemeStep.{no_class}
+use Rattle.uax29.specs.EditionStep.{no_link, link_after}
 use Rattle.uax29.specs.declared.conjoined.Link.{Link}
 
 -- a linker is of no use without a consonant before it
@@ -58,11 +57,17 @@ module _ (conjuncts : List ℕ) (at i : ℕ) (h : 0 < i) (v : ℕ) (e : v ≡ ce
     pub begun_here : v ≡ Consonant → true ≡ begun_at conjuncts at
     begun_here k = sym (begun_is ∙ rw (eq-eqb v Consonant k))
 
-    pub begun_parted : (j : Bool) → (v ≡ Consonant → ⊥) → j ≡ member joiners v → j ≡ false → false ≡ begun_at conjuncts at
-    begun_parted j n k l = sym (begun_is ∙ rw (ne_eqb v Consonant n, ← k, l))
+    pub begun_parted : (v ≡ Consonant → ⊥) → (v ≡ Extend → ⊥) → (v ≡ Linker → ⊥) → false ≡ begun_at conjuncts at
+    begun_parted n m l = sym (begun_is ∙ rw (ne_eqb v Consonant n, ne_eqb v Extend m, ne_eqb v Linker l))
 
-    pub begun_on : (j : Bool) → (v ≡ Consonant → ⊥) → j ≡ member joiners v → j ≡ true → begun_at conjuncts at ≡ begun_at conjuncts (i - 1)
-    begun_on j n k l = begun_is ∙ rw (ne_eqb v Consonant n, ← k, l)
+    -- over a linker, 2, or an extender, 3
+    pub begun_on : 2 ≤ v → v ≤ 3 → begun_at conjuncts at ≡ begun_at conjuncts (i - 1)
+    begun_on a b = begun_is ∙ go (v - 2) (omega arith) (omega arith)
+      where
+        go : (d : ℕ) → v ≡ d + 2 → d ≤ 1 → (eqb v Consonant || (member joiners v && begun_at conjuncts (i - 1))) ≡ begun_at conjuncts (i - 1)
+        go zero k l = rw k
+        go (suc zero) k l = rw k
+        go (suc (suc d)) k l = absurd (omega arith)
 
   module _ (inv : linked_at conjuncts at ≡ linked_at conjuncts i) where
     linked_is : linked_at conjuncts at ≡ ((eqb v Linker && begun_at conjuncts (i - 1)) || (member joiners v && linked_at conjuncts (i - 1)))
@@ -101,30 +106,6 @@ link_none conjuncts = refl
 pub link_more : (conjuncts : List ℕ) (i v : ℕ) (s q : Link) → s ≡ link_at conjuncts i → v ≡ cell conjuncts i → q ≡ link_after s v → q ≡ link_at conjuncts (i + 1)
 unfolding begun_at linked_at link_after
 link_more conjuncts i v s q e f g = g ∙ rw (e, f) (ap (link_at conjuncts) (sym (add-one i)))
-
--- what the code answers of a link, arm by arm
-module _ (l : Link) (v : ℕ) where
-  pub link_consonant : v ≡ Consonant → record { begun = true; linked = false } ≡ link_after l v
-  unfolding link_after
-  link_consonant e = rw e
-
-  pub link_linker : (r : Bool) → v ≡ Linker → r ≡ (l.begun || l.linked) → record { begun = l.begun; linked = r } ≡ link_after l v
-  unfolding link_after
-  link_linker r e f = rw (e, f)
-
-  pub link_extend : v ≡ Extend → l ≡ link_after l v
-  unfolding link_after
-  link_extend e = rw e
-
-  pub link_other : (v ≡ Consonant → ⊥) → (v ≡ Linker → ⊥) → (v ≡ Extend → ⊥) → no_link ≡ link_after l v
-  unfolding link_after
-  link_other a b c = rw (ne_eqb v Consonant a, ne_eqb v Linker b, ne_eqb v Extend c)
-
-  pub bad_begun : (r : Bool) → l.begun ≡ true → r ≡ eqb v no_class → r ≡ bad_link l v
-  bad_begun r e f = rw e (f ∙ sym (ap (λ x. x || eqb v no_class) (and-false l.linked)))
-
-  pub bad_other : l.begun ≡ false → l.linked ≡ bad_link l v
-  bad_other e = rw e (sym (or-false (l.linked && true) ∙ and-true l.linked))
 
 -- one turn of the pass that takes starts away
 module _ (breaks conjuncts out₀ : List ℕ) (i : ℕ) (link : Link) (e : link ≡ link_at conjuncts i) (v : ℕ) (f : v ≡ cell conjuncts i) where

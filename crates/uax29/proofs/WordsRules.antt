@@ -10,8 +10,10 @@ use Rattle.uax29.specs.Rules.{Item, Rule, is, is_not, among, pictographic, anyth
 use Rattle.uax29.specs.Words.{WB1, WB2, WB3, WB3a, WB3b, WB3c, WB3d, WB4, WB5, WB6, WB7, WB7a, WB7b, WB7c, WB8, WB9, WB10, WB11, WB12, WB13, WB13a, WB13b, WB15, WB16, WB999, seen, ignored, an_x, kept, passed, to_WB4, rules}
 use Rattle.uax29.specs.Words as Words
 use Rattle.uax29.specs.declared.words.Seen.{Seen}
+use Rattle.std.specs.Prelude.{Some}
+use Rattle.uax29.specs.ClustersBack.{nearest}
 use Rattle.uax29.proofs.Pairs.{odd_of, even, factor}
-use Rattle.uax29.specs.WordsSeen.{from_WB1, from_WB3c, from_WB5, from_WB7a, from_WB8, from_WB13, from_WB15, decided, after, has_x, nothing}
+use Rattle.uax29.specs.WordsSeen.{from_WB1, from_WB3, from_WB3c, from_WB5, from_WB7a, from_WB8, from_WB13, from_WB15, decided, after, has_x, nothing}
 
 -- the class of the nearest character
 abbrev pub kind_of : List Item → ℕ
@@ -27,7 +29,7 @@ odd = odd_of RI
 
 unfoldable pub seen_of : List Item → Seen
 seen_of xs =
-    record { none = edge xs; last = kind_of xs; near = kind_of (kept xs); far = kind_of (rest (kept xs)); odd = odd (kept xs) }
+    record { last = nearest xs; near = kind_of (kept xs); far = kind_of (rest (kept xs)); odd = odd (kept xs) }
 
 decide_seen : (rs : List Rule) (before : List Item) (y : Item) (xs : List Item) → decide (map seen rs) before (y ∷ xs) ≡ decide rs (kept before) (y ∷ passed xs)
 unfolding decide applies
@@ -35,8 +37,8 @@ decide_seen [] before y xs = refl
 decide_seen (r ∷ rs) before y xs = rw (decide_seen rs before y xs)
 
 -- WB1 to WB4
-first_rules : (rs : List Rule) (before : List Item) (y : Item) (xs : List Item) → decide (to_WB4 ++ rs) before (y ∷ xs) ≡ from_WB1 (seen_of before) y.kind (from_WB3c (kind_of before) y.kind y.mark (decide rs before (y ∷ xs)))
-unfolding decide applies WB1 WB2 WB3 WB3a WB3b WB3c WB3d WB4 edge any anything one is among pictographic from_WB1 from_WB3c seen_of
+first_rules : (rs : List Rule) (before : List Item) (y : Item) (xs : List Item) → decide (to_WB4 ++ rs) before (y ∷ xs) ≡ from_WB1 (nearest before) y.kind y.mark (decide rs before (y ∷ xs))
+unfolding decide applies WB1 WB2 WB3 WB3a WB3b WB3c WB3d WB4 edge any anything one is among pictographic from_WB1 from_WB3 from_WB3c
 first_rules rs [] y xs = refl
 first_rules rs (x ∷ before) y xs = simp and-true
 
@@ -96,11 +98,11 @@ unfolding decided seen_of edge from_WB1
 decides [] y xs = first_rules (map seen Words.from_WB5) [] y xs
 decides (x ∷ before) y xs =
     first_rules (map seen Words.from_WB5) (x ∷ before) y xs
-    ∙ ap (λ t. from_WB1 (seen_of (x ∷ before)) y.kind (from_WB3c x.kind y.kind y.mark t)) (decide_seen Words.from_WB5 (x ∷ before) y xs ∙ later_rules (WB15 ∷ WB16 ∷ WB999 ∷ []) (kept (x ∷ before)) y (passed xs) ∙ rw (last_rules_on (kept (x ∷ before)) y (passed xs) (kept_some x before)))
+    ∙ ap (λ t. from_WB1 (Some x.kind) y.kind y.mark t) (decide_seen Words.from_WB5 (x ∷ before) y xs ∙ later_rules (WB15 ∷ WB16 ∷ WB999 ∷ []) (kept (x ∷ before)) y (passed xs) ∙ rw (last_rules_on (kept (x ∷ before)) y (passed xs) (kept_some x before)))
 
 after_under : (t : Bool) (x : Item) (xs : List Item)
-    → ◌≡◌ {A = Seen} (record { none = false; last = x.kind; near = kind_of (cond t xs (x ∷ xs)); far = kind_of (rest (cond t xs (x ∷ xs))); odd = odd (cond t xs (x ∷ xs)) })
-    (cond t (record { none = false; last = x.kind; near = kind_of xs; far = kind_of (rest xs); odd = odd xs }) (record { none = false; last = x.kind; near = x.kind; far = kind_of xs; odd = eqb x.kind RI && not (odd xs) }))
+    → ◌≡◌ {A = Seen} (record { last = Some x.kind; near = kind_of (cond t xs (x ∷ xs)); far = kind_of (rest (cond t xs (x ∷ xs))); odd = odd (cond t xs (x ∷ xs)) })
+    (cond t (record { last = Some x.kind; near = kind_of xs; far = kind_of (rest xs); odd = odd xs }) (record { last = Some x.kind; near = x.kind; far = kind_of xs; odd = eqb x.kind RI && not (odd xs) }))
 unfolding odd_of is
 after_under true x xs = refl
 after_under false x xs = refl

@@ -7,7 +7,7 @@ use Rattle.records.specs.Text.{cell}
 use Rattle.records.specs.Refusals.{refuse, ◌⊳◌, over, judge_lengths, judge_three}
 use Rattle.records.specs.Written.{roomy, written_under}
 use Rattle.records.specs.declared.Side.TheVariants.{Neither}
-use Rattle.records.specs.declared.Verdict.{Verdict}
+use Rattle.records.specs.Verdict.{Verdict}
 use Rattle.uax29.specs.Conjunct as Conjunct
 use Rattle.uax29.specs.Editions.{editions, boundary_in}
 

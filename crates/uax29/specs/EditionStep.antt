@@ -1,11 +1,10 @@
 -- The engine that goes forward, by an edition: what GB9c needs beside the state of 15.0 and no more, and the step (SCOPE 12.6).
-use Rattle.std.specs.Prelude.{ℕ, Bool, false, cond, not, ◌&&◌, ◌||◌, List, [], ◌∷◌, eqb}
+use Rattle.std.specs.Prelude.{ℕ, Bool, false, cond, not, ◌&&◌, ◌||◌, List, [], ◌∷◌, eqb, Ok, Err}
 use Rattle.basics.specs.Sets.{member}
 use Rattle.classes.specs.ClusterBreak as ClusterBreak
 use Rattle.records.specs.Refusals.{refuse, ◌⊳◌, coded, mark, outside}
 use Rattle.records.specs.declared.Side.TheVariants.{Record, Neither}
-use Rattle.records.specs.declared.Verdict.{Verdict}
-use Rattle.records.specs.declared.Verdict.TheVariants.{Accepted, Refused}
+use Rattle.records.specs.Verdict.{Verdict}
 use Rattle.uax29.specs.Conjunct.{Consonant, Linker}
 use Rattle.uax29.specs.Conjunct as Conjunct
 use Rattle.uax29.specs.Clusters.{Item, Rule, ◌⨯◌, decide, GB1, GB2, GB3, GB4, GB5, GB6, GB7, GB8, GB9, GB9a, GB9b, GB11, GB12, GB999}
@@ -80,10 +79,10 @@ step_verdict_in edition s kind marked conjunct =
 
 -- with a refusal the state that it was given and the answer 0
 abbrev pub step_under_in : Verdict → ℕ → EditionState → ℕ → ℕ → ℕ → EditionStep
-step_under_in Accepted edition s kind marked conjunct =
+step_under_in (Ok _) edition s kind marked conjunct =
     let x = item_of kind marked conjunct in
-    record { state = advance_in s x; answer = cond (starts_in edition s x) 1 0; verdict = Accepted }
-step_under_in (Refused r) edition s kind marked conjunct = record { state = s; answer = 0; verdict = Refused r }
+    record { state = advance_in s x; answer = cond (starts_in edition s x) 1 0; verdict = Ok tt }
+step_under_in (Err r) edition s kind marked conjunct = record { state = s; answer = 0; verdict = Err r }
 
 abbrev pub step_in : ℕ → EditionState → ℕ → ℕ → ℕ → EditionStep
 step_in edition s kind marked conjunct = step_under_in (step_verdict_in edition s kind marked conjunct) edition s kind marked conjunct

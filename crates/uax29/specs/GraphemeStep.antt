@@ -1,11 +1,10 @@
 -- The engine that goes forward: what it keeps of the records before a place, and its step (SCOPE 12.5).
-use Rattle.std.specs.Prelude.{ℕ, Bool, false, cond, not, ◌&&◌, ◌||◌, List, [], ◌∷◌, eqb, ltb}
+use Rattle.std.specs.Prelude.{ℕ, Bool, false, cond, not, ◌&&◌, ◌||◌, List, [], ◌∷◌, eqb, ltb, Ok, Err}
 use Rattle.classes.specs.ClusterBreak.{RI, EX, ZWJ}
 use Rattle.classes.specs.ClusterBreak as ClusterBreak
 use Rattle.records.specs.Refusals.{refuse, ◌⊳◌, coded, mark, outside}
 use Rattle.records.specs.declared.Side.TheVariants.{Record, Neither}
-use Rattle.records.specs.declared.Verdict.{Verdict}
-use Rattle.records.specs.declared.Verdict.TheVariants.{Accepted, Refused}
+use Rattle.records.specs.Verdict.{Verdict}
 use Rattle.uax29.specs.Clusters.{Item, is, pictographic, Rule, one, many, ◌⨯◌, decide, GB1, GB2, GB3, GB4, GB5, GB6, GB7, GB8, GB9, GB9a, GB9b, GB11, GB12, GB13, GB999}
 use Rattle.uax29.specs.declared.graphemes.GraphemeState.{GraphemeState}
 use Rattle.uax29.specs.declared.graphemes.GraphemeStep.{GraphemeStep}
@@ -86,9 +85,9 @@ step_verdict s kind marked = refuse (bad_record kind marked) 4 Record 0 ⊳ refu
 
 -- with a refusal the state that it was given and the answer 0, as of the word step (SCOPE 5.4)
 abbrev pub step_under : Verdict → GraphemeState → ℕ → ℕ → GraphemeStep
-step_under Accepted s kind marked =
-    record { state = advance s (item kind marked); answer = cond (starts s (item kind marked)) 1 0; verdict = Accepted }
-step_under (Refused r) s kind marked = record { state = s; answer = 0; verdict = Refused r }
+step_under (Ok _) s kind marked =
+    record { state = advance s (item kind marked); answer = cond (starts s (item kind marked)) 1 0; verdict = Ok tt }
+step_under (Err r) s kind marked = record { state = s; answer = 0; verdict = Err r }
 
 abbrev pub step_of : GraphemeState → ℕ → ℕ → GraphemeStep
 step_of s kind marked = step_under (step_verdict s kind marked) s kind marked

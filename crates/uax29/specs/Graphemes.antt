@@ -4,7 +4,7 @@ use Rattle.std.specs.Prelude.{ℕ, cond, List, length}
 use Rattle.classes.specs.ClusterBreak as ClusterBreak
 use Rattle.records.specs.Refusals.{marked_verdict}
 use Rattle.records.specs.Written.{roomy, written_under}
-use Rattle.records.specs.declared.Verdict.{Verdict}
+use Rattle.records.specs.Verdict.{Verdict}
 use Rattle.uax29.specs.Clusters.{boundary_at}
 
 -- "0 or 1 for each record, 1 where a cluster starts"

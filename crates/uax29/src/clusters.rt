@@ -1,359 +1,287 @@
 // GB1 to GB999 of UAX #29: a function for each rule, which says whether the rule applies at a place of two lent columns, the cluster
 // breaks and the marks read as Extended_Pictographic.
-ghost use Rattle.std.specs.Prelude.{◌≡◌, [], ◌∷◌, drop};
+#![tactic(auto, unfolding(crate::specs::Clusters::applies, crate::specs::Clusters::anything, crate::specs::Clusters::any, crate::specs::Clusters::GB1, crate::specs::Clusters::GB2, crate::specs::Clusters::GB3, crate::specs::Clusters::GB4, crate::specs::Clusters::GB5, crate::specs::Clusters::GB6, crate::specs::Clusters::GB7, crate::specs::Clusters::GB8, crate::specs::Clusters::GB9, crate::specs::Clusters::GB9a, crate::specs::Clusters::GB9b, crate::specs::Clusters::GB11, crate::specs::Clusters::GB12, crate::specs::Clusters::GB13, crate::specs::Clusters::GB999))]
+
+ghost use Rattle.std.specs.Prelude.{◌≡◌, drop};
 ghost use Rattle.classes.specs.ClusterBreak as ClusterBreak;
-ghost use Rattle.uax29.specs.Clusters.{is, is_not, among, pictographic, edge, one, next, many, pairs, rules, applies, decide, before_of, after_of, boundary_at, GB1, GB2, GB3, GB4, GB5, GB6, GB7, GB8, GB9, GB9a, GB9b, GB11, GB12, GB13};
-ghost use Rattle.uax29.specs.ClustersBack.{beyond};
+ghost use Rattle.uax29.specs.Clusters.{is, is_not, among, pictographic, edge, one, next, many, pairs, rules, applies, decide, boundary_at, GB1, GB2, GB3, GB4, GB5, GB6, GB7, GB8, GB9, GB9a, GB9b, GB11, GB12, GB13, GB999};
+ghost use Rattle.uax29.specs.ClustersBack.{beyond, before, after, nearest};
 
 use classes::cluster_break::*;
-use records::cells::cell8;
+use records::cells::cell;
 
-// Whether a boundary stands at a place: the first rule that applies decides.
+// Whether a boundary stands at a place: past the end there is no place.
 pub fn boundary(breaks: &[u8], marks: &[u8], at: usize) -> bool
     ensures { result ≡ boundary_at breaks.now marks.now at }
 {
-    if breaks.len() < at {
-        return false;
-    }
-    if gb1(breaks, marks, at) {
-        return true;
-    }
-    if gb2(breaks, marks, at) {
-        return true;
-    }
-    from_gb3(breaks, marks, at)
+    at <= breaks.len() && Place { breaks, marks, at }.is_boundary()
 }
 
-fn from_gb3(breaks: &[u8], marks: &[u8], at: usize) -> bool
-    ensures { result ≡ decide (drop 2 rules) (before_of breaks.now marks.now at) (after_of breaks.now marks.now at) }
-{
-    if gb3(breaks, marks, at) {
-        return false;
-    }
-    if gb4(breaks, marks, at) {
-        return true;
-    }
-    if gb5(breaks, marks, at) {
-        return true;
-    }
-    from_gb6(breaks, marks, at)
+// A place of the two columns.
+#[derive(Clone, Copy)]
+struct Place<'a> {
+    breaks: &'a [u8],
+    marks: &'a [u8],
+    at: usize,
 }
 
-fn from_gb6(breaks: &[u8], marks: &[u8], at: usize) -> bool
-    ensures { result ≡ decide (drop 5 rules) (before_of breaks.now marks.now at) (after_of breaks.now marks.now at) }
-{
-    if gb6(breaks, marks, at) {
-        return false;
-    }
-    if gb7(breaks, marks, at) {
-        return false;
-    }
-    if gb8(breaks, marks, at) {
-        return false;
-    }
-    from_gb9(breaks, marks, at)
-}
-
-fn from_gb9(breaks: &[u8], marks: &[u8], at: usize) -> bool
-    ensures { result ≡ decide (drop 8 rules) (before_of breaks.now marks.now at) (after_of breaks.now marks.now at) }
-{
-    if gb9(breaks, marks, at) {
-        return false;
-    }
-    if gb9a(breaks, marks, at) {
-        return false;
-    }
-    if gb9b(breaks, marks, at) {
-        return false;
-    }
-    from_gb11(breaks, marks, at)
-}
-
-fn from_gb11(breaks: &[u8], marks: &[u8], at: usize) -> bool
-    ensures { result ≡ decide (drop 11 rules) (before_of breaks.now marks.now at) (after_of breaks.now marks.now at) }
-{
-    if gb11(breaks, marks, at) {
-        return false;
-    }
-    if gb12(breaks, marks, at) {
-        return false;
-    }
-    if gb13(breaks, marks, at) {
-        return false;
-    }
-    gb999(breaks, marks, at)
-}
-
-fn gb1(breaks: &[u8], marks: &[u8], at: usize) -> bool
-    ensures { result ≡ applies GB1 (before_of breaks.now marks.now at) (after_of breaks.now marks.now at) }
-{
-    if at == 0 {
-        return at < breaks.len();
-    }
-    false
-}
-
-fn gb2(breaks: &[u8], marks: &[u8], at: usize) -> bool
-    ensures { result ≡ applies GB2 (before_of breaks.now marks.now at) (after_of breaks.now marks.now at) }
-{
-    if at == 0 {
-        return false;
-    }
-    breaks.len() <= at
-}
-
-fn gb3(breaks: &[u8], marks: &[u8], at: usize) -> bool
-    ensures { result ≡ applies GB3 (before_of breaks.now marks.now at) (after_of breaks.now marks.now at) }
-{
-    if before_is(breaks, marks, at, CR) {
-        return after_is(breaks, marks, at, LF);
-    }
-    false
-}
-
-fn gb4(breaks: &[u8], marks: &[u8], at: usize) -> bool
-    ensures { result ≡ applies GB4 (before_of breaks.now marks.now at) (after_of breaks.now marks.now at) }
-{
-    if before_is(breaks, marks, at, CN) {
-        return true;
-    }
-    before_in2(breaks, marks, at, CR, LF)
-}
-
-fn gb5(breaks: &[u8], marks: &[u8], at: usize) -> bool
-    ensures { result ≡ applies GB5 (before_of breaks.now marks.now at) (after_of breaks.now marks.now at) }
-{
-    if after_is(breaks, marks, at, CN) {
-        return true;
-    }
-    after_in2(breaks, marks, at, CR, LF)
-}
-
-fn gb6(breaks: &[u8], marks: &[u8], at: usize) -> bool
-    ensures { result ≡ applies GB6 (before_of breaks.now marks.now at) (after_of breaks.now marks.now at) }
-{
-    if before_is(breaks, marks, at, L) {
-        if after_is(breaks, marks, at, L) {
+impl<'a> Place<'a> {
+    // The first rule that applies decides.
+    #[tactic(auto, unfolding(crate::specs::Clusters::decide, crate::specs::Clusters::GB1, crate::specs::Clusters::GB2, crate::specs::Clusters::GB3, crate::specs::Clusters::GB4, crate::specs::Clusters::GB5, crate::specs::Clusters::GB6, crate::specs::Clusters::GB7, crate::specs::Clusters::GB8, crate::specs::Clusters::GB9, crate::specs::Clusters::GB9a, crate::specs::Clusters::GB9b, crate::specs::Clusters::GB11, crate::specs::Clusters::GB12, crate::specs::Clusters::GB13, crate::specs::Clusters::GB999))]
+    fn is_boundary(&self) -> bool
+        ensures { result ≡ decide rules (before self.now) (after self.now) }
+    {
+        if self.gb1() || self.gb2() {
             return true;
         }
-        if after_is(breaks, marks, at, V) {
+        if self.gb3() {
+            return false;
+        }
+        if self.gb4() || self.gb5() {
             return true;
         }
-        return after_in2(breaks, marks, at, LV, LVT);
-    }
-    false
-}
-
-fn gb7(breaks: &[u8], marks: &[u8], at: usize) -> bool
-    ensures { result ≡ applies GB7 (before_of breaks.now marks.now at) (after_of breaks.now marks.now at) }
-{
-    if before_in2(breaks, marks, at, LV, V) {
-        return after_in2(breaks, marks, at, V, T);
-    }
-    false
-}
-
-fn gb8(breaks: &[u8], marks: &[u8], at: usize) -> bool
-    ensures { result ≡ applies GB8 (before_of breaks.now marks.now at) (after_of breaks.now marks.now at) }
-{
-    if before_in2(breaks, marks, at, LVT, T) {
-        return after_is(breaks, marks, at, T);
-    }
-    false
-}
-
-fn gb9(breaks: &[u8], marks: &[u8], at: usize) -> bool
-    ensures { result ≡ applies GB9 (before_of breaks.now marks.now at) (after_of breaks.now marks.now at) }
-{
-    after_in2(breaks, marks, at, EX, ZWJ)
-}
-
-fn gb9a(breaks: &[u8], marks: &[u8], at: usize) -> bool
-    ensures { result ≡ applies GB9a (before_of breaks.now marks.now at) (after_of breaks.now marks.now at) }
-{
-    after_is(breaks, marks, at, SM)
-}
-
-fn gb9b(breaks: &[u8], marks: &[u8], at: usize) -> bool
-    ensures { result ≡ applies GB9b (before_of breaks.now marks.now at) (after_of breaks.now marks.now at) }
-{
-    before_is(breaks, marks, at, PP)
-}
-
-fn gb11(breaks: &[u8], marks: &[u8], at: usize) -> bool
-    ensures { result ≡ applies GB11 (before_of breaks.now marks.now at) (after_of breaks.now marks.now at) }
-{
-    if is_joiner_before(breaks, marks, at) {
-        return is_pictograph_after(breaks, marks, at);
-    }
-    false
-}
-
-fn gb12(breaks: &[u8], marks: &[u8], at: usize) -> bool
-    ensures { result ≡ applies GB12 (before_of breaks.now marks.now at) (after_of breaks.now marks.now at) }
-{
-    if is_half_flag_from_start(breaks, marks, at) {
-        return after_is(breaks, marks, at, RI);
-    }
-    false
-}
-
-fn gb13(breaks: &[u8], marks: &[u8], at: usize) -> bool
-    ensures { result ≡ applies GB13 (before_of breaks.now marks.now at) (after_of breaks.now marks.now at) }
-{
-    if is_half_flag_after_other(breaks, marks, at) {
-        return after_is(breaks, marks, at, RI);
-    }
-    false
-}
-
-fn gb999(breaks: &[u8], marks: &[u8], at: usize) -> bool
-    ensures { result ≡ decide (drop 14 rules) (before_of breaks.now marks.now at) (after_of breaks.now marks.now at) }
-{
-    if at == 0 {
-        return false;
-    }
-    at < breaks.len()
-}
-
-// The character before the place is of this class.
-fn before_is(breaks: &[u8], marks: &[u8], at: usize, kind: u8) -> bool
-    ensures { result ≡ one (is kind) (before_of breaks.now marks.now at) }
-{
-    if at == 0 {
-        return false;
-    }
-    cell8(breaks, at - 1) == kind
-}
-
-// There is a character before the place, and it is of another class.
-fn before_is_not(breaks: &[u8], marks: &[u8], at: usize, kind: u8) -> bool
-    ensures { result ≡ one (is_not kind) (before_of breaks.now marks.now at) }
-{
-    if at == 0 {
-        return false;
-    }
-    cell8(breaks, at - 1) != kind
-}
-
-fn before_in2(breaks: &[u8], marks: &[u8], at: usize, first: u8, second: u8) -> bool
-    ensures { result ≡ one (among (first ∷ second ∷ [])) (before_of breaks.now marks.now at) }
-{
-    if before_is(breaks, marks, at, first) {
-        return true;
-    }
-    before_is(breaks, marks, at, second)
-}
-
-// The character at the place is of this class.
-fn after_is(breaks: &[u8], marks: &[u8], at: usize, kind: u8) -> bool
-    ensures { result ≡ one (is kind) (after_of breaks.now marks.now at) }
-{
-    if at < breaks.len() {
-        return breaks[at] == kind;
-    }
-    false
-}
-
-fn after_in2(breaks: &[u8], marks: &[u8], at: usize, first: u8, second: u8) -> bool
-    ensures { result ≡ one (among (first ∷ second ∷ [])) (after_of breaks.now marks.now at) }
-{
-    if after_is(breaks, marks, at, first) {
-        return true;
-    }
-    after_is(breaks, marks, at, second)
-}
-
-fn is_pictograph_before(breaks: &[u8], marks: &[u8], at: usize) -> bool
-    ensures { result ≡ one pictographic (before_of breaks.now marks.now at) }
-{
-    if at == 0 {
-        return false;
-    }
-    cell8(marks, at - 1) == 1
-}
-
-fn is_pictograph_after(breaks: &[u8], marks: &[u8], at: usize) -> bool
-    ensures { result ≡ one pictographic (after_of breaks.now marks.now at) }
-{
-    if at < breaks.len() {
-        return cell8(marks, at) == 1;
-    }
-    false
-}
-
-// The left side of GB11.
-fn is_joiner_before(breaks: &[u8], marks: &[u8], at: usize) -> bool
-    ensures { result ≡ next (is ClusterBreak.ZWJ) (many (is ClusterBreak.EX) (one pictographic)) (before_of breaks.now marks.now at) }
-{
-    if at == 0 {
-        return false;
-    }
-    if before_is(breaks, marks, at, ZWJ) {
-        return is_extended_before(breaks, marks, at - 1);
-    }
-    false
-}
-
-// A pictograph and any number of Extend.
-fn is_extended_before(breaks: &[u8], marks: &[u8], at: usize) -> bool
-    ensures { result ≡ many (is ClusterBreak.EX) (one pictographic) (before_of breaks.now marks.now at) }
-{
-    let mut i = at;
-    while before_is(breaks, marks, i, EX) {
-        if is_pictograph_before(breaks, marks, i) {
-            return true;
+        if self.gb6() || self.gb7() || self.gb8() {
+            return false;
         }
-        i -= 1;
+        if self.gb9() || self.gb9a() || self.gb9b() {
+            return false;
+        }
+        if self.gb11() || self.gb12() || self.gb13() {
+            return false;
+        }
+        self.gb999()
     }
-    is_pictograph_before(breaks, marks, i)
-}
 
-// The left side of GB12.
-fn is_half_flag_from_start(breaks: &[u8], marks: &[u8], at: usize) -> bool
-    ensures { result ≡ next (is ClusterBreak.RI) (pairs (is ClusterBreak.RI) edge) (before_of breaks.now marks.now at) }
-{
-    if at == 0 {
-        return false;
+    fn gb1(&self) -> bool
+        ensures { result ≡ applies GB1 (before self.now) (after self.now) }
+    {
+        self.is_start() && !self.is_end()
     }
-    if before_is(breaks, marks, at, RI) {
-        return beyond_flags(breaks, marks, at - 1) == 0;
-    }
-    false
-}
 
-// The left side of GB13.
-fn is_half_flag_after_other(breaks: &[u8], marks: &[u8], at: usize) -> bool
-    ensures { result ≡ next (is ClusterBreak.RI) (pairs (is ClusterBreak.RI) (one (is_not ClusterBreak.RI))) (before_of breaks.now marks.now at) }
-{
-    if at == 0 {
-        return false;
+    fn gb2(&self) -> bool
+        ensures { result ≡ applies GB2 (before self.now) (after self.now) }
+    {
+        !self.is_start() && self.is_end()
     }
-    if before_is(breaks, marks, at, RI) {
-        return before_is_not(breaks, marks, beyond_flags(breaks, marks, at - 1), RI);
-    }
-    false
-}
 
-// The place before all pairs of RI that stand before a place.
-fn beyond_flags(breaks: &[u8], marks: &[u8], at: usize) -> usize
-    ensures { before_of breaks.now marks.now result ≡ beyond (is ClusterBreak.RI) (before_of breaks.now marks.now at) }
-{
-    let mut i = at;
-    while is_flag_before(breaks, marks, i) {
-        i -= 2;
+    fn gb3(&self) -> bool
+        ensures { result ≡ applies GB3 (before self.now) (after self.now) }
+    {
+        self.before_is(CR) && self.after_is(LF)
     }
-    i
-}
 
-fn is_flag_before(breaks: &[u8], marks: &[u8], at: usize) -> bool
-    ensures { result ≡ next (is ClusterBreak.RI) (one (is ClusterBreak.RI)) (before_of breaks.now marks.now at) }
-{
-    if at == 0 {
-        return false;
+    fn gb4(&self) -> bool
+        ensures { result ≡ applies GB4 (before self.now) (after self.now) }
+    {
+        self.before_in(&[CN, CR, LF])
     }
-    if before_is(breaks, marks, at, RI) {
-        return before_is(breaks, marks, at - 1, RI);
+
+    fn gb5(&self) -> bool
+        ensures { result ≡ applies GB5 (before self.now) (after self.now) }
+    {
+        self.after_in(&[CN, CR, LF])
     }
-    false
+
+    fn gb6(&self) -> bool
+        ensures { result ≡ applies GB6 (before self.now) (after self.now) }
+    {
+        self.before_is(L) && self.after_in(&[L, V, LV, LVT])
+    }
+
+    fn gb7(&self) -> bool
+        ensures { result ≡ applies GB7 (before self.now) (after self.now) }
+    {
+        self.before_in(&[LV, V]) && self.after_in(&[V, T])
+    }
+
+    fn gb8(&self) -> bool
+        ensures { result ≡ applies GB8 (before self.now) (after self.now) }
+    {
+        self.before_in(&[LVT, T]) && self.after_is(T)
+    }
+
+    fn gb9(&self) -> bool
+        ensures { result ≡ applies GB9 (before self.now) (after self.now) }
+    {
+        self.after_in(&[EX, ZWJ])
+    }
+
+    fn gb9a(&self) -> bool
+        ensures { result ≡ applies GB9a (before self.now) (after self.now) }
+    {
+        self.after_is(SM)
+    }
+
+    fn gb9b(&self) -> bool
+        ensures { result ≡ applies GB9b (before self.now) (after self.now) }
+    {
+        self.before_is(PP)
+    }
+
+    fn gb11(&self) -> bool
+        ensures { result ≡ applies GB11 (before self.now) (after self.now) }
+    {
+        self.is_joiner_before() && self.is_pictograph_after()
+    }
+
+    fn gb12(&self) -> bool
+        ensures { result ≡ applies GB12 (before self.now) (after self.now) }
+    {
+        self.is_half_flag_from_start() && self.after_is(RI)
+    }
+
+    fn gb13(&self) -> bool
+        ensures { result ≡ applies GB13 (before self.now) (after self.now) }
+    {
+        self.is_half_flag_after_other() && self.after_is(RI)
+    }
+
+    fn gb999(&self) -> bool
+        ensures { result ≡ applies GB999 (before self.now) (after self.now) }
+    {
+        !self.is_start() && !self.is_end()
+    }
+
+    // The class of the character before the place.
+    #[tactic(auto, using(crate::proofs::ClustersSides::cells))]
+    fn before(&self) -> Option<u8>
+        ensures { result ≡ nearest (before self.now) }
+    {
+        if self.at == 0 {
+            return None;
+        }
+        Some(cell(self.breaks, self.at - 1, 0))
+    }
+
+    // The class of the character at the place.
+    #[tactic(auto, using(crate::proofs::ClustersSides::cells))]
+    fn after(&self) -> Option<u8>
+        ensures { result ≡ nearest (after self.now) }
+    {
+        self.breaks.get(self.at).copied()
+    }
+
+    // The character before the place is of this class.
+    #[tactic(auto, using(crate::proofs::ClustersSides::kinds))]
+    fn before_is(&self, kind: u8) -> bool
+        ensures { result ≡ one (is kind) (before self.now) }
+    {
+        self.before() == Some(kind)
+    }
+
+    fn before_in(&self, kinds: &[u8]) -> bool
+        ensures { result ≡ one (among kinds.now) (before self.now) }
+    {
+        self.before().is_some_and(|kind| kinds.contains(&kind))
+    }
+
+    // The character at the place is of this class.
+    #[tactic(auto, using(crate::proofs::ClustersSides::kinds))]
+    fn after_is(&self, kind: u8) -> bool
+        ensures { result ≡ one (is kind) (after self.now) }
+    {
+        self.after() == Some(kind)
+    }
+
+    fn after_in(&self, kinds: &[u8]) -> bool
+        ensures { result ≡ one (among kinds.now) (after self.now) }
+    {
+        self.after().is_some_and(|kind| kinds.contains(&kind))
+    }
+
+    #[tactic(auto, using(crate::proofs::ClustersSides::kinds))]
+    fn is_start(&self) -> bool
+        ensures { result ≡ edge (before self.now) }
+    {
+        self.before().is_none()
+    }
+
+    #[tactic(auto, using(crate::proofs::ClustersSides::kinds))]
+    fn is_end(&self) -> bool
+        ensures { result ≡ edge (after self.now) }
+    {
+        self.after().is_none()
+    }
+
+    // The place before the character before this one; the start is its own.
+    #[tactic(auto, using(crate::proofs::ClustersSides::cells))]
+    fn back(&self) -> Place<'a>
+        ensures { before result ≡ drop 1 (before self.now) }
+    {
+        Place {
+            at: self.at.saturating_sub(1),
+            ..*self
+        }
+    }
+
+    #[tactic(auto, using(crate::proofs::ClustersSides::cells))]
+    fn is_pictograph_before(&self) -> bool
+        ensures { result ≡ one pictographic (before self.now) }
+    {
+        self.at != 0 && cell(self.marks, self.at - 1, 0) == 1
+    }
+
+    #[tactic(auto, using(crate::proofs::ClustersSides::cells))]
+    fn is_pictograph_after(&self) -> bool
+        ensures { result ≡ one pictographic (after self.now) }
+    {
+        self.at < self.breaks.len() && cell(self.marks, self.at, 0) == 1
+    }
+
+    // The left side of GB11.
+    #[tactic(auto, using(crate::proofs::ClustersSides::flags))]
+    fn is_joiner_before(&self) -> bool
+        ensures { result ≡ next (is ClusterBreak.ZWJ) (many (is ClusterBreak.EX) (one pictographic)) (before self.now) }
+    {
+        self.before_is(ZWJ) && self.back().is_extended_before()
+    }
+
+    // A pictograph and any number of Extend: a while, since the loop stops by what stands before the place.
+    fn is_extended_before(&self) -> bool
+        ensures { result ≡ many (is ClusterBreak.EX) (one pictographic) (before self.now) }
+    {
+        let mut place = *self;
+        while place.before_is(EX) && !place.is_pictograph_before() {
+            place.at -= 1;
+        }
+        place.is_pictograph_before()
+    }
+
+    // The left side of GB12.
+    #[tactic(auto, using(crate::proofs::ClustersSides::flags))]
+    fn is_half_flag_from_start(&self) -> bool
+        ensures { result ≡ next (is ClusterBreak.RI) (pairs (is ClusterBreak.RI) edge) (before self.now) }
+    {
+        self.before_is(RI) && self.back().beyond_flags().is_start()
+    }
+
+    // The left side of GB13.
+    #[tactic(auto, using(crate::proofs::ClustersSides::flags))]
+    fn is_half_flag_after_other(&self) -> bool
+        ensures { result ≡ next (is ClusterBreak.RI) (pairs (is ClusterBreak.RI) (one (is_not ClusterBreak.RI))) (before self.now) }
+    {
+        if !self.before_is(RI) {
+            return false;
+        }
+        let place = self.back().beyond_flags();
+        !place.is_start() && !place.before_is(RI)
+    }
+
+    // The place before all pairs of RI that stand before a place: by twos, which no range counts.
+    fn beyond_flags(&self) -> Place<'a>
+        ensures { before result ≡ beyond (is ClusterBreak.RI) (before self.now) }
+    {
+        let mut place = *self;
+        while place.is_flag_before() {
+            place.at -= 2;
+        }
+        place
+    }
+
+    #[tactic(auto, using(crate::proofs::ClustersSides::flags))]
+    fn is_flag_before(&self) -> bool
+        ensures { result ≡ next (is ClusterBreak.RI) (one (is ClusterBreak.RI)) (before self.now) }
+    {
+        self.before_is(RI) && self.back().before_is(RI)
+    }
 }

@@ -1,8 +1,7 @@
 // Clusters by an edition of UAX #29 (SCOPE 12.6), over three lent columns, the cluster breaks, the marks read as Extended_Pictographic and
 // the conjunct codes: the check, two runs that give the same answers, and the step of the one that goes forward.
-ghost use Rattle.std.specs.Prelude.{◌≡◌, false, cond, ◌++◌, ◌≤◌, ◌<◌, length, drop};
+ghost use Rattle.std.specs.Prelude.{◌≡◌, false, cond, ◌++◌, ◌≤◌, ◌<◌, length, drop, Ok};
 ghost use Rattle.basics.specs.Columns.{cells};
-ghost use Rattle.records.specs.declared.Verdict.TheVariants.{Accepted};
 ghost use Rattle.uax29.specs.Graphemes.{grapheme_check};
 ghost use Rattle.uax29.specs.EditionRuns.{start_in, unknown, edition_check, edition_verdict, edition_cells};
 ghost use Rattle.uax29.specs.EditionStep.{item_of, start_state, bad_link, bad_state_in, advance_in, starts_in, step_verdict_in, step_in};
@@ -12,9 +11,8 @@ use crate::conjoined::{Link, is_conjoined, is_joined, take_starts, taken};
 use crate::conjunct;
 use crate::forward::write_starts;
 use crate::graphemes::GraphemeState;
-use crate::words::bit;
 use classes::cluster_break;
-use records::{Side, Verdict, is_bad_three, judge_codes, judge_columns, judge_room, refused};
+use records::{Refusal, Side, is_bad_three, judge_codes, judge_columns, judge_room, refused};
 
 pub const UNICODE_15_0: u64 = 150;
 
@@ -23,28 +21,34 @@ pub const UNICODE_15_1: u64 = 151;
 fn is_unknown(edition: u64) -> bool
     ensures { result ≡ unknown edition }
 {
-    if edition == UNICODE_15_0 {
-        return false;
-    }
-    edition != UNICODE_15_1
+    !matches!(edition, UNICODE_15_0 | UNICODE_15_1)
 }
 
 // The verdict on an edition and the three columns.
-pub fn check_edition(edition: u64, breaks: &[u8], marks: &[u8], conjuncts: &[u8]) -> Verdict
+#[tactic(auto, unfolding(crate::specs::EditionRuns::edition_check))]
+pub fn check_edition(
+    edition: u64,
+    breaks: &[u8],
+    marks: &[u8],
+    conjuncts: &[u8],
+) -> Result<(), Refusal>
     ensures { result ≡ edition_check edition breaks.now marks.now conjuncts.now }
 {
     if is_unknown(edition) {
         return refused(15, Side::Neither, 0);
     }
-    let shape = judge_columns(breaks.len(), conjuncts.len(), marks.len());
-    let Verdict::Accepted = shape else {
-        return shape;
-    };
+    judge_columns(breaks.len(), conjuncts.len(), marks.len())?;
     judge_codes(cluster_break::LEN, conjunct::LEN, breaks, conjuncts, marks)
 }
 
 // The verdict on a run: the check, and a cell for each record.
-fn judge(edition: u64, breaks: &[u8], marks: &[u8], conjuncts: &[u8], room: usize) -> Verdict
+fn judge(
+    edition: u64,
+    breaks: &[u8],
+    marks: &[u8],
+    conjuncts: &[u8],
+    room: usize,
+) -> Result<(), Refusal>
     ensures { result ≡ edition_verdict edition breaks.now marks.now conjuncts.now room }
 {
     judge_room(
@@ -55,11 +59,12 @@ fn judge(edition: u64, breaks: &[u8], marks: &[u8], conjuncts: &[u8], room: usiz
 }
 
 // A place by looking back: GB9c takes away a start of 15.0, and gives none.
+#[tactic(auto, using(crate::proofs::EditionLaws::places_in))]
 fn start_in(edition: u64, breaks: &[u8], marks: &[u8], conjuncts: &[u8], at: usize) -> u8
     requires { at < length breaks.now }
     ensures { result ≡ start_in edition breaks.now marks.now conjuncts.now at }
 {
-    let start = bit(boundary(breaks, marks, at));
+    let start = u8::from(boundary(breaks, marks, at));
     if edition == UNICODE_15_1 {
         return taken(is_conjoined(breaks, conjuncts, at), start);
     }
@@ -70,35 +75,31 @@ fn decide_starts_in(edition: u64, breaks: &[u8], marks: &[u8], conjuncts: &[u8],
     requires { length breaks.now ≤ length out.old }
     ensures { out.new ≡ cells (start_in edition breaks.now marks.now conjuncts.now) (length breaks.now) ++ drop (length breaks.now) out.old }
 {
-    let mut i: usize = 0;
-    while i < breaks.len() {
+    for i in 0..breaks.len() {
         out[i] = start_in(edition, breaks, marks, conjuncts, i);
-        i += 1;
     }
 }
 
 // The answers to a whole text, one cell a record: each place is decided from the edition's rules by looking back.
+#[tactic(auto, using(crate::proofs::EditionLaws::run_long))]
 pub fn edition_back(
     edition: u64,
     breaks: &[u8],
     marks: &[u8],
     conjuncts: &[u8],
     out: &mut [u8],
-) -> Verdict
+) -> Result<(), Refusal>
     ensures value { result ≡ edition_verdict edition breaks.now marks.now conjuncts.now (length out.old) }
     ensures out_after { out.new ≡ edition_cells edition breaks.now marks.now conjuncts.now out.old }
 {
-    let verdict = judge(edition, breaks, marks, conjuncts, out.len());
-    let Verdict::Accepted = verdict else {
-        return verdict;
-    };
+    judge(edition, breaks, marks, conjuncts, out.len())?;
     decide_starts_in(edition, breaks, marks, conjuncts, out);
-    Verdict::Accepted
+    Ok(())
 }
 
 // The answers of 15.0, and for 15.1 a pass that takes starts away.
 fn write_starts_in(edition: u64, breaks: &[u8], marks: &[u8], conjuncts: &[u8], out: &mut [u8])
-    requires { (grapheme_check breaks.now marks.now ≡ Accepted) × (length breaks.now ≤ length out.old) }
+    requires { (grapheme_check breaks.now marks.now ≡ Ok tt) × (length breaks.now ≤ length out.old) }
     ensures { out.new ≡ cells (start_in edition breaks.now marks.now conjuncts.now) (length breaks.now) ++ drop (length breaks.now) out.old }
 {
     write_starts(breaks, marks, out);
@@ -108,38 +109,37 @@ fn write_starts_in(edition: u64, breaks: &[u8], marks: &[u8], conjuncts: &[u8], 
 }
 
 // The same answers by passes that go forward.
+#[tactic(auto, using(crate::proofs::EditionLaws::run_checked, crate::proofs::EditionLaws::run_long))]
 pub fn edition_forward(
     edition: u64,
     breaks: &[u8],
     marks: &[u8],
     conjuncts: &[u8],
     out: &mut [u8],
-) -> Verdict
+) -> Result<(), Refusal>
     ensures value { result ≡ edition_verdict edition breaks.now marks.now conjuncts.now (length out.old) }
     ensures out_after { out.new ≡ edition_cells edition breaks.now marks.now conjuncts.now out.old }
 {
-    let verdict = judge(edition, breaks, marks, conjuncts, out.len());
-    let Verdict::Accepted = verdict else {
-        return verdict;
-    };
+    judge(edition, breaks, marks, conjuncts, out.len())?;
     write_starts_in(edition, breaks, marks, conjuncts, out);
-    Verdict::Accepted
+    Ok(())
 }
 
 // What the engine that goes forward keeps between two records: the state of 15.0, and what GB9c needs beside it. Every value is allowed, and
 // the step refuses those that no text leads to.
-#[derive(Clone, Copy)]
+#[derive(Clone, Copy, Debug, PartialEq, Eq)]
 pub struct EditionState {
     pub graphemes: GraphemeState,
     pub link: Link,
 }
 
 // What a step hands back: the new state, the answer (1 where a cluster starts at the record) and the verdict.
-#[derive(Clone, Copy)]
+// With a refusal a step hands back the same state and the answer 0, which its contract says (5.4): so the verdict stands beside them, no Result.
+#[derive(Clone, Copy, Debug, PartialEq, Eq)]
 pub struct EditionStep {
     pub state: EditionState,
     pub answer: u8,
-    pub verdict: Verdict,
+    pub verdict: Result<(), Refusal>,
 }
 
 impl EditionState {
@@ -158,15 +158,11 @@ impl EditionState {
     fn is_bad(self) -> bool
         ensures { result ≡ bad_state_in self }
     {
-        let graphemes = self.graphemes;
-        if graphemes.is_bad() {
-            return true;
-        }
-        let link = self.link;
-        link.is_bad(graphemes.previous)
+        self.graphemes.is_bad() || self.link.is_bad(self.graphemes.previous)
     }
 
-    fn judge(self, edition: u64, kind: u8, mark: u8, conjunct: u8) -> Verdict
+    #[tactic(auto, using(crate::proofs::Chain::told_verdicts), unfolding(crate::specs::EditionStep::step_verdict_in))]
+    fn judge(self, edition: u64, kind: u8, mark: u8, conjunct: u8) -> Result<(), Refusal>
         ensures { result ≡ step_verdict_in edition self kind mark conjunct }
     {
         if is_unknown(edition) {
@@ -178,31 +174,29 @@ impl EditionState {
         if self.is_bad() {
             return refused(8, Side::Neither, 0);
         }
-        Verdict::Accepted
+        Ok(())
     }
 
+    #[tactic(auto, unfolding(crate::specs::EditionStep::advance_in, crate::specs::GraphemeStep::advance, crate::specs::Rules::is, crate::specs::Rules::pictographic))]
     fn after(self, kind: u8, mark: u8, conjunct: u8) -> EditionState
         ensures { result ≡ advance_in self (item_of kind mark conjunct) }
     {
-        let graphemes = self.graphemes;
-        let link = self.link;
         EditionState {
-            graphemes: graphemes.after(kind, mark),
-            link: link.after(conjunct),
+            graphemes: self.graphemes.after(kind, mark),
+            link: self.link.after(conjunct),
         }
     }
 
     // As of a place: GB9c takes away a start of 15.0, and gives none.
+    #[tactic(auto, using(crate::proofs::EditionLaws::answers_in))]
     fn answer(self, edition: u64, kind: u8, mark: u8, conjunct: u8) -> u8
         requires { bad_state_in self ≡ false }
         ensures { result ≡ cond (starts_in edition self (item_of kind mark conjunct)) 1 0 }
     {
-        let graphemes = self.graphemes;
-        let link = self.link;
-        let start = bit(graphemes.is_start(kind, mark));
+        let start = u8::from(self.graphemes.is_start(kind, mark));
         if edition == UNICODE_15_1 {
             return taken(
-                is_joined(link.linked, conjunct, graphemes.previous, kind),
+                is_joined(self.link.linked, conjunct, self.graphemes.previous, kind),
                 start,
             );
         }
@@ -214,7 +208,7 @@ impl EditionState {
         ensures { result ≡ step_in edition self kind mark conjunct }
     {
         let verdict = self.judge(edition, kind, mark, conjunct);
-        let Verdict::Accepted = verdict else {
+        let Ok(()) = verdict else {
             return EditionStep {
                 state: self,
                 answer: 0,
@@ -224,7 +218,7 @@ impl EditionState {
         EditionStep {
             state: self.after(kind, mark, conjunct),
             answer: self.answer(edition, kind, mark, conjunct),
-            verdict: Verdict::Accepted,
+            verdict: Ok(()),
         }
     }
 }

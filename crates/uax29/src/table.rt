@@ -1,7 +1,7 @@
 // Written by tools/graphemes: the table of the run of clusters that goes forward.
 
 // The cell of each class and mark: a bit of answer for each row, and the next rows above.
-pub const TABLE: [u64; 28] = [
+pub static TABLE: [u64; 28] = [
     289360695328243711,
     361700864122945535,
     4294967295,

@@ -1,309 +1,281 @@
 // WB1 to WB999 of UAX #29 in one pass over two lent columns, the word classes and the marks read as Extended_Pictographic.
-ghost use Rattle.std.specs.Prelude.{◌≡◌, cond, ◌&&◌, not, [], ◌∷◌, ◌+◌, ◌-◌, eqb, length};
+#![tactic(auto)]
+
+ghost use Rattle.std.specs.Prelude.{◌≡◌, ◌&&◌, not, ◌+◌, ◌-◌, eqb, length};
 ghost use Rattle.basics.specs.Sets.{member};
 ghost use Rattle.classes.specs.WordBreak as WordBreak;
-ghost use Rattle.uax29.specs.WordsSeen.{holds, both, from_WB3c, from_WB5, from_WB7a, from_WB8, from_WB13, from_WB15, after_WB4, decided, has_x};
-ghost use Rattle.uax29.specs.Words.{boundary_cells};
+ghost use Rattle.uax29.specs.Words.{AHLetter, newlines, ignored, mid_letters, mid_numbers, extendable, extended, boundary_cells};
+ghost use Rattle.uax29.specs.WordsSeen.{around, after_WB4, after_WB7c, from_WB3c, decided, has_x};
 ghost use Rattle.uax29.specs.WordsSeen as WordsSeen;
 
-use basics::shorter;
 use classes::word_break::*;
-use records::cells::cell8;
+use records::cells::cell;
 
-// What the rules see of the characters before a place: whether there are none, the class of the last, and, of those that WB4 leaves,
-// the classes of the last two and whether they end with an odd number of RI.
+// What the rules see of the characters before a place: the class of the last, and, of those that WB4 leaves, the classes of the last two
+// (Other, a class that no rule names, stands for none) and whether they end with an odd number of RI.
 #[derive(Clone, Copy)]
 pub struct Seen {
-    pub none: bool,
-    pub last: u8,
+    pub last: Option<u8>,
     pub near: u8,
     pub far: u8,
     pub odd: bool,
 }
 
-// The sets of classes that the rules name.
+// What the rules from WB5 on see of the characters on the two sides of a place: the classes of two before it and of two from it on, and
+// whether an odd number of RI ends before it.
 #[derive(Clone, Copy)]
-pub enum Set {
-    Only(u8),
-    Newlines,
-    Ignored,
-    Letters,
-    MidLetters,
-    MidNumbers,
-    Extendable,
-    Extended,
+struct Around {
+    far: u8,
+    near: u8,
+    b: u8,
+    next: u8,
+    odd: bool,
 }
 
-// Membership of two and of three classes.
-pub(crate) fn in2(class: u8, a: u8, b: u8) -> bool
-    ensures { result ≡ member (a ∷ b ∷ []) class }
+// The sets of classes that the rules name.
+fn is_newline(class: u8) -> bool
+    ensures { result ≡ member newlines class }
 {
-    if class == a {
-        return true;
-    }
-    class == b
+    matches!(class, NL | CR | LF)
 }
 
-pub(crate) fn in3(class: u8, a: u8, b: u8, c: u8) -> bool
-    ensures { result ≡ member (a ∷ b ∷ c ∷ []) class }
+fn is_ignored(class: u8) -> bool
+    ensures { result ≡ member ignored class }
 {
-    if class == a {
-        return true;
-    }
-    in2(class, b, c)
+    matches!(class, Extend | FO | ZWJ)
+}
+
+fn is_letter(class: u8) -> bool
+    ensures { result ≡ member AHLetter class }
+{
+    matches!(class, ALetter | HL)
+}
+
+fn is_mid_letter(class: u8) -> bool
+    ensures { result ≡ member mid_letters class }
+{
+    matches!(class, ML | MidNumLet | SQ)
+}
+
+fn is_mid_number(class: u8) -> bool
+    ensures { result ≡ member mid_numbers class }
+{
+    matches!(class, MN | MidNumLet | SQ)
 }
 
 fn is_extendable(class: u8) -> bool
-    ensures { result ≡ holds Set.Extendable class }
+    ensures { result ≡ member extendable class }
 {
-    if class == KA {
-        return true;
-    }
-    in3(class, NU, ALetter, HL)
+    matches!(class, KA | NU | ALetter | HL)
 }
 
 fn is_extended(class: u8) -> bool
-    ensures { result ≡ holds Set.Extended class }
+    ensures { result ≡ member extended class }
 {
-    if class == EX {
-        return true;
-    }
-    is_extendable(class)
+    matches!(class, EX | KA | NU | ALetter | HL)
 }
 
-impl Set {
-    fn has(self, class: u8) -> bool
-        ensures { result ≡ holds self class }
+// WB5 to WB16: a function for each rule, which says whether the rule applies.
+impl Around {
+    fn wb5(self) -> bool
+        ensures { result ≡ (member AHLetter self.near && member AHLetter self.b) }
     {
-        match self {
-            Set::Only(only) => class == only,
-            Set::Newlines => in3(class, NL, CR, LF),
-            Set::Ignored => in3(class, Extend, FO, ZWJ),
-            Set::Letters => in2(class, ALetter, HL),
-            Set::MidLetters => in3(class, ML, MidNumLet, SQ),
-            Set::MidNumbers => in3(class, MN, MidNumLet, SQ),
-            Set::Extendable => is_extendable(class),
-            Set::Extended => is_extended(class),
-        }
+        is_letter(self.near) && is_letter(self.b)
     }
-}
 
-fn pair(s: Set, x: u8, t: Set, y: u8) -> bool
-    ensures { result ≡ both s x t y }
-{
-    if s.has(x) {
-        return t.has(y);
+    fn wb6(self) -> bool
+        ensures { result ≡ (member AHLetter self.near && (member mid_letters self.b && member AHLetter self.next)) }
+    {
+        is_letter(self.near) && is_mid_letter(self.b) && is_letter(self.next)
     }
-    false
-}
 
-// One before the place and two from it on.
-fn one_two(s: Set, near: u8, t: Set, b: u8, u: Set, next: u8) -> bool
-    ensures { result ≡ (holds s near && both t b u next) }
-{
-    if s.has(near) {
-        return pair(t, b, u, next);
+    fn wb7(self) -> bool
+        ensures { result ≡ ((member mid_letters self.near && member AHLetter self.far) && member AHLetter self.b) }
+    {
+        is_mid_letter(self.near) && is_letter(self.far) && is_letter(self.b)
     }
-    false
-}
 
-// Two before the place and one from it on.
-fn two_one(s: Set, far: u8, t: Set, near: u8, u: Set, b: u8) -> bool
-    ensures { result ≡ (both t near s far && holds u b) }
-{
-    if pair(t, near, s, far) {
-        return u.has(b);
+    fn wb7a(self) -> bool
+        ensures { result ≡ (eqb self.near WordBreak.HL && eqb self.b WordBreak.SQ) }
+    {
+        self.near == HL && self.b == SQ
     }
-    false
-}
 
-fn from_wb15(b: u8, odd: bool) -> bool
-    ensures { result ≡ from_WB15 b odd }
-{
+    fn wb7b(self) -> bool
+        ensures { result ≡ (eqb self.near WordBreak.HL && (eqb self.b WordBreak.DQ && eqb self.next WordBreak.HL)) }
+    {
+        self.near == HL && self.b == DQ && self.next == HL
+    }
+
+    fn wb7c(self) -> bool
+        ensures { result ≡ ((eqb self.near WordBreak.DQ && eqb self.far WordBreak.HL) && eqb self.b WordBreak.HL) }
+    {
+        self.near == DQ && self.far == HL && self.b == HL
+    }
+
+    fn wb8(self) -> bool
+        ensures { result ≡ (eqb self.near WordBreak.NU && eqb self.b WordBreak.NU) }
+    {
+        self.near == NU && self.b == NU
+    }
+
+    fn wb9(self) -> bool
+        ensures { result ≡ (member AHLetter self.near && eqb self.b WordBreak.NU) }
+    {
+        is_letter(self.near) && self.b == NU
+    }
+
+    fn wb10(self) -> bool
+        ensures { result ≡ (eqb self.near WordBreak.NU && member AHLetter self.b) }
+    {
+        self.near == NU && is_letter(self.b)
+    }
+
+    fn wb11(self) -> bool
+        ensures { result ≡ ((member mid_numbers self.near && eqb self.far WordBreak.NU) && eqb self.b WordBreak.NU) }
+    {
+        is_mid_number(self.near) && self.far == NU && self.b == NU
+    }
+
+    fn wb12(self) -> bool
+        ensures { result ≡ (eqb self.near WordBreak.NU && (member mid_numbers self.b && eqb self.next WordBreak.NU)) }
+    {
+        self.near == NU && is_mid_number(self.b) && self.next == NU
+    }
+
+    fn wb13(self) -> bool
+        ensures { result ≡ (eqb self.near WordBreak.KA && eqb self.b WordBreak.KA) }
+    {
+        self.near == KA && self.b == KA
+    }
+
+    fn wb13a(self) -> bool
+        ensures { result ≡ (member extended self.near && eqb self.b WordBreak.EX) }
+    {
+        is_extended(self.near) && self.b == EX
+    }
+
+    fn wb13b(self) -> bool
+        ensures { result ≡ (eqb self.near WordBreak.EX && member extendable self.b) }
+    {
+        self.near == EX && is_extendable(self.b)
+    }
+
     // WB15, WB16
-    if b == RI {
-        return !odd;
+    fn wb15(self) -> bool
+        ensures { result ≡ (eqb self.b WordBreak.RI && self.odd) }
+    {
+        self.b == RI && self.odd
     }
-    // WB999
-    true
+
+    // Whether one of them does: no boundary is here.
+    #[tactic(auto, unfolding(crate::specs::WordsSeen::from_WB5, crate::specs::WordsSeen::from_WB7a))]
+    fn is_joined(self) -> bool
+        ensures { result ≡ not (after_WB4 self) }
+    {
+        self.wb5()
+            || self.wb6()
+            || self.wb7()
+            || self.wb7a()
+            || self.wb7b()
+            || self.wb7c()
+            || self.is_joined_from_wb8()
+    }
+
+    #[tactic(auto, unfolding(crate::specs::WordsSeen::from_WB8, crate::specs::WordsSeen::from_WB13, crate::specs::WordsSeen::from_WB15))]
+    fn is_joined_from_wb8(self) -> bool
+        ensures { result ≡ not (after_WB7c self) }
+    {
+        self.wb8()
+            || self.wb9()
+            || self.wb10()
+            || self.wb11()
+            || self.wb12()
+            || self.wb13()
+            || self.wb13a()
+            || self.wb13b()
+            || self.wb15()
+    }
 }
 
-fn from_wb13(near: u8, b: u8, odd: bool) -> bool
-    ensures { result ≡ from_WB13 near b (from_WB15 b odd) }
+// WB3
+fn is_crlf(last: u8, b: u8) -> bool
+    ensures { result ≡ (eqb last WordBreak.CR && eqb b WordBreak.LF) }
 {
-    // WB13
-    if pair(Set::Only(KA), near, Set::Only(KA), b) {
-        return false;
-    }
-    // WB13a
-    if pair(Set::Extended, near, Set::Only(EX), b) {
-        return false;
-    }
-    // WB13b
-    if pair(Set::Only(EX), near, Set::Extendable, b) {
-        return false;
-    }
-    from_wb15(b, odd)
+    last == CR && b == LF
 }
 
-fn from_wb8(far: u8, near: u8, b: u8, next: u8, odd: bool) -> bool
-    ensures { result ≡ from_WB8 far near b next (from_WB13 near b (from_WB15 b odd)) }
+// WB3c to WB16: whether one of them says that no boundary is here.
+#[tactic(auto, unfolding(crate::specs::WordsSeen::from_WB3c))]
+fn is_joined(last: u8, mark: u8, around: Around) -> bool
+    ensures { result ≡ not (from_WB3c last around.b mark (after_WB4 around)) }
 {
-    // WB8
-    if pair(Set::Only(NU), near, Set::Only(NU), b) {
-        return false;
-    }
-    // WB9
-    if pair(Set::Letters, near, Set::Only(NU), b) {
-        return false;
-    }
-    // WB10
-    if pair(Set::Only(NU), near, Set::Letters, b) {
-        return false;
-    }
-    // WB11
-    if two_one(Set::Only(NU), far, Set::MidNumbers, near, Set::Only(NU), b) {
-        return false;
-    }
-    // WB12
-    if one_two(Set::Only(NU), near, Set::MidNumbers, b, Set::Only(NU), next) {
-        return false;
-    }
-    from_wb13(near, b, odd)
-}
-
-fn from_wb7a(far: u8, near: u8, b: u8, next: u8, odd: bool) -> bool
-    ensures { result ≡ from_WB7a far near b next (from_WB8 far near b next (from_WB13 near b (from_WB15 b odd))) }
-{
-    // WB7a
-    if pair(Set::Only(HL), near, Set::Only(SQ), b) {
-        return false;
-    }
-    // WB7b
-    if one_two(Set::Only(HL), near, Set::Only(DQ), b, Set::Only(HL), next) {
-        return false;
-    }
-    // WB7c
-    if two_one(Set::Only(HL), far, Set::Only(DQ), near, Set::Only(HL), b) {
-        return false;
-    }
-    from_wb8(far, near, b, next, odd)
-}
-
-fn from_wb5(far: u8, near: u8, b: u8, next: u8, odd: bool) -> bool
-    ensures { result ≡ from_WB5 far near b next (from_WB7a far near b next (from_WB8 far near b next (from_WB13 near b (from_WB15 b odd)))) }
-{
-    // WB5
-    if pair(Set::Letters, near, Set::Letters, b) {
-        return false;
-    }
-    // WB6
-    if one_two(Set::Letters, near, Set::MidLetters, b, Set::Letters, next) {
-        return false;
-    }
-    // WB7
-    if two_one(Set::Letters, far, Set::MidLetters, near, Set::Letters, b) {
-        return false;
-    }
-    from_wb7a(far, near, b, next, odd)
+    last == ZWJ && mark == 1
+        || last == WSegSpace && around.b == WSegSpace
+        || is_ignored(around.b)
+        || around.is_joined()
 }
 
 impl Seen {
     const NOTHING: Seen = Seen {
-        none: true,
-        last: Other,
+        last: None,
         near: Other,
         far: Other,
         odd: false,
     };
 
-    fn from_wb3c(self, b: u8, mark: u8, next: u8) -> bool
-        ensures { result ≡ from_WB3c self.last b mark (after_WB4 self b next) }
+    // WB4 leaves these of the characters before a place, and class b, with the next that it leaves, from the place on.
+    fn around(self, b: u8, next: u8) -> Around
+        ensures { result ≡ around self b next }
     {
-        // WB3c
-        if pair(Set::Only(ZWJ), self.last, Set::Only(1), mark) {
-            return false;
+        Around {
+            far: self.far,
+            near: self.near,
+            b,
+            next,
+            odd: self.odd,
         }
-        // WB3d
-        if pair(Set::Only(WSegSpace), self.last, Set::Only(WSegSpace), b) {
-            return false;
-        }
-        // WB4
-        if Set::Ignored.has(b) {
-            return false;
-        }
-        from_wb5(self.far, self.near, b, next, self.odd)
     }
 
+    #[tactic(auto, unfolding(crate::specs::WordsSeen::decided, crate::specs::WordsSeen::from_WB1, crate::specs::WordsSeen::from_WB3))]
     fn is_boundary(self, b: u8, mark: u8, next: u8) -> bool
         ensures { result ≡ decided self b mark next }
     {
         // WB1
-        if self.none {
+        let Some(last) = self.last else {
             return true;
-        }
+        };
         // WB3
-        if pair(Set::Only(CR), self.last, Set::Only(LF), b) {
+        if is_crlf(last, b) {
             return false;
         }
-        // WB3a
-        if Set::Newlines.has(self.last) {
-            return true;
-        }
-        // WB3b
-        if Set::Newlines.has(b) {
-            return true;
-        }
-        self.from_wb3c(b, mark, next)
+        // WB3a, WB3b
+        is_newline(last) || is_newline(b) || !is_joined(last, mark, self.around(b, next))
     }
 
+    #[tactic(auto, unfolding(crate::specs::WordsSeen::has_x))]
     fn has_x(self) -> bool
         ensures { result ≡ has_x self }
     {
-        if self.none {
-            return false;
-        }
-        !Set::Newlines.has(self.last)
+        self.last.is_some_and(|last| !is_newline(last))
     }
 
-    // WB4 passes over the class.
-    fn passes_over(self, class: u8) -> bool
-        ensures { result ≡ (holds Set.Ignored class && has_x self) }
-    {
-        if Set::Ignored.has(class) {
-            return self.has_x();
-        }
-        false
-    }
-
-    // Whether an odd number of RI ends with this class.
-    fn odd_with(self, class: u8) -> bool
-        ensures { result ≡ (eqb class WordBreak.RI && not self.odd) }
-    {
-        if class == RI {
-            return !self.odd;
-        }
-        false
-    }
-
+    // WB4 passes over the class, or it is one more that WB4 leaves.
+    #[tactic(auto, unfolding(crate::specs::WordsSeen::after))]
     fn after(self, class: u8) -> Seen
         ensures { result ≡ WordsSeen.after self class }
     {
-        if self.passes_over(class) {
+        if is_ignored(class) && self.has_x() {
             return Seen {
-                none: false,
-                last: class,
-                near: self.near,
-                far: self.far,
-                odd: self.odd,
+                last: Some(class),
+                ..self
             };
         }
         Seen {
-            none: false,
-            last: class,
+            last: Some(class),
             near: class,
             far: self.near,
-            odd: self.odd_with(class),
+            odd: class == RI && !self.odd,
         }
     }
 }
@@ -312,34 +284,23 @@ impl Seen {
 fn ahead(words: &[u8], at: usize) -> u8
     ensures { result ≡ WordsSeen.ahead words.now at (length words.now - at) }
 {
-    let mut i = at;
-    while i < words.len() {
-        if Set::Ignored.has(words[i]) {
-            i += 1;
-        } else {
+    for i in at..words.len() {
+        if !is_ignored(words[i]) {
             return words[i];
         }
     }
     Other
 }
 
-pub(crate) fn bit(b: bool) -> u8
-    ensures { result ≡ cond b 1 0 }
-{
-    if b { 1 } else { 0 }
-}
-
 // 1 for each record that a word boundary stands before and 0 for any other, for as many records as there are cells.
 pub fn boundaries(words: &[u8], pictographs: &[u8], out: &mut [u8])
     ensures { out.new ≡ boundary_cells words.now pictographs.now out.old }
 {
-    let n = shorter(words.len(), out.len());
     let mut seen = Seen::NOTHING;
-    let mut i: usize = 0;
-    while i < n {
-        let class = cell8(words, i);
-        out[i] = bit(seen.is_boundary(class, cell8(pictographs, i), ahead(words, i + 1)));
+    for i in 0..words.len().min(out.len()) {
+        let class = words[i];
+        let mark = cell(pictographs, i, 0);
+        out[i] = u8::from(seen.is_boundary(class, mark, ahead(words, i + 1)));
         seen = seen.after(class);
-        i += 1;
     }
 }

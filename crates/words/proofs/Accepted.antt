@@ -1,5 +1,6 @@
 -- What it says of the next record of a text that the check accepted it.
 -- Assumes nothing.
+use Rattle.std.specs.Prelude.{Ok, Some, None}
 use Prim.Native.Nat.{ℕ}
 use mathlib.Core.Path.{◌≡◌, refl}
 use mathlib.Core.Bool.{Bool, true, false, cond}
@@ -10,14 +11,12 @@ use borrow.Author.Tests.{ltb-true}
 use Rattle.classes.specs.WordBreak as WordBreak
 use Rattle.records.specs.Text.{cell}
 use Rattle.records.specs.Refusals.{word_verdict, outside}
-use Rattle.records.specs.declared.Verdict.TheVariants.{Accepted}
 use Rattle.records.proofs.Marks.{fine}
-use Rattle.words.specs.declared.Next.TheVariants.{Class, End}
 use Rattle.words.specs.Step.{next_codes}
 use Rattle.words.specs.Run.{next_at}
 
-module _ (words pictographs : List ℕ) (accepted : word_verdict words pictographs ≡ Accepted) where
-  next_under : (k : ℕ) (there : Bool) → ltb k (length words) ≡ there → outside (next_codes (cond there (Class (cell words k)) End)) ≡ false
+module _ (words pictographs : List ℕ) (accepted : word_verdict words pictographs ≡ Ok tt) where
+  next_under : (k : ℕ) (there : Bool) → ltb k (length words) ≡ there → outside (next_codes (cond there (Some (cell words k)) None)) ≡ false
   next_under k true e = rw (fine WordBreak.len words pictographs accepted k (ltb-true _ _ e)).0
   next_under k false e = refl
 

@@ -1,5 +1,6 @@
 -- What the exits write, exit by exit.
 -- Assumes nothing.
+use Rattle.std.specs.Prelude.{Ok}
 use Prim.Native.Nat.{ℕ, ◌+◌, ◌<◌, ◌≤◌}
 use mathlib.Core.Path.{◌≡◌, refl}
 use mathlib.Core.Bool.{Bool, true, false, cond, ◌&&◌}
@@ -8,9 +9,8 @@ use lib.Dec.{eqb, leb}
 use borrow.Author.Tests.{leb-false}
 use Rattle.basics.specs.Choices.{◌⇒◌▹◌}
 use Rattle.classes.specs.WordBreak.{RI}
-use Rattle.records.specs.declared.Verdict.TheVariants.{Accepted}
 use Rattle.words.specs.declared.WordState.{WordState}
-use Rattle.words.specs.declared.Next.{Next}
+use Rattle.words.specs.Next.{Next}
 use Rattle.words.specs.declared.Exit.{Exit}
 use Rattle.words.specs.declared.Exit.TheVariants.{Begun, Released, Joined, Parted, Ignored, Held, Opened, Paired}
 use Rattle.words.specs.Rules.{flag_rules, number_rules, letter_rules, pair_rules, exit_of, leaves}
@@ -37,7 +37,7 @@ leaves_class n s b Held h k = k
 leaves_class n s b Opened h k = k
 leaves_class n s b (Paired count) h k = k
 
-pub leaves_accepts : (s : WordState) (b : ℕ) (exit : Exit) → (leaves s b exit).verdict ≡ Accepted
+pub leaves_accepts : (s : WordState) (b : ℕ) (exit : Exit) → (leaves s b exit).verdict ≡ Ok tt
 unfolding leaves
 leaves_accepts s b Begun = refl
 leaves_accepts s b Released = refl

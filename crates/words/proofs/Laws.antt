@@ -1,5 +1,6 @@
 -- What is true of every word run.
 -- Assumes nothing.
+use Rattle.std.specs.Prelude.{Ok, Err, Some, None}
 use Prim.Native.Nat.{ℕ, zero, suc, ◌+◌, ◌<◌, ◌≤◌}
 use mathlib.Core.Path.{◌≡◌, refl, sym, ◌∙◌, ap}
 use mathlib.Core.Bool.{Bool, true, false, cond}
@@ -13,14 +14,12 @@ use Rattle.classes.specs.WordBreak as WordBreak
 use Rattle.records.specs.Text.{cell}
 use Rattle.records.specs.Refusals.{word_verdict}
 use Rattle.records.specs.declared.Refusal.{Refusal}
-use Rattle.records.specs.declared.Verdict.{Verdict}
-use Rattle.records.specs.declared.Verdict.TheVariants.{Accepted, Refused}
+use Rattle.records.specs.Verdict.{Verdict}
 use Rattle.records.proofs.Unique.{unique}
 use Rattle.records.proofs.Written as Written
 use Rattle.words.specs.declared.WordState.{WordState}
 use Rattle.words.specs.declared.WordStep.{WordStep}
-use Rattle.words.specs.declared.Next.{Next}
-use Rattle.words.specs.declared.Next.TheVariants.{Class, End}
+use Rattle.words.specs.Next.{Next}
 use Rattle.words.specs.Rules.{exit_of, leaves, ruled}
 use Rattle.words.specs.Step.{bad_state, step_verdict, step_of}
 use Rattle.words.specs.Run.{next_at, step_from, state_at, answer_at, run_verdict, run_cells}
@@ -55,7 +54,7 @@ step_is : (r : WordStep) (state : WordState) (answer : ℕ) (verdict : Verdict) 
 step_is r state answer verdict e f g = rw (← e, ← f, ← g)
 
 -- a text that the check accepts
-module _ (words pictographs : List ℕ) (accepted : word_verdict words pictographs ≡ Accepted) where
+module _ (words pictographs : List ℕ) (accepted : word_verdict words pictographs ≡ Ok tt) where
   state_class : (i : ℕ) → i ≤ length words → (state_at words pictographs i).previous < WordBreak.len
   unfolding state_at
   state_class zero h = omega arith
@@ -66,7 +65,7 @@ module _ (words pictographs : List ℕ) (accepted : word_verdict words pictograp
   pub state_good : (i : ℕ) → i ≤ length words → bad_state (state_at words pictographs i) ≡ false
   state_good i h = rw (lt-leb _ _ (state_class i h), le-ltb _ _ (count_small words pictographs i))
 
-  step_accepts : (i : ℕ) → i < length words → step_verdict (state_at words pictographs i) (cell words i) (cell pictographs i) (next_at words (i + 1)) ≡ Accepted
+  step_accepts : (i : ℕ) → i < length words → step_verdict (state_at words pictographs i) (cell words i) (cell pictographs i) (next_at words (i + 1)) ≡ Ok tt
   unfolding step_verdict
   step_accepts i h = rw ((fine WordBreak.len words pictographs accepted i h).0, (fine WordBreak.len words pictographs accepted i h).1, fine_next words pictographs accepted (i + 1), state_good i (omega arith))
 
@@ -74,16 +73,16 @@ module _ (words pictographs : List ℕ) (accepted : word_verdict words pictograp
   -- and gives the run's answer.
   pub run_folds : (i : ℕ) → i < length words
       → step_of (state_at words pictographs i) (cell words i) (cell pictographs i) (next_at words (i + 1))
-      ≡ record { state = state_at words pictographs (i + 1); answer = answer_at words pictographs i; verdict = Accepted }
+      ≡ record { state = state_at words pictographs (i + 1); answer = answer_at words pictographs i; verdict = Ok tt }
   unfolding answer_at state_at
   run_folds i h =
       rw (step_accepts i h) (step_is _ _ _ _ (ap (state_at words pictographs) (sym (add-one i))) refl (leaves_accepts (state_at words pictographs i) _ _))
 
 class_or : Next → ℕ
-class_or (Class c) = c
-class_or End = 0
+class_or (Some c) = c
+class_or None = 0
 
-class_under : (words : List ℕ) (k : ℕ) (there : Bool) → ltb k (length words) ≡ there → cell words k ≡ class_or (cond there (Class (cell words k)) End)
+class_under : (words : List ℕ) (k : ℕ) (there : Bool) → ltb k (length words) ≡ there → cell words k ≡ class_or (cond there (Some (cell words k)) None)
 unfolding class_or
 class_under words k true e = refl
 class_under words k false e = get_or-eq_default words 0 (ltb-false _ _ e)
@@ -125,13 +124,13 @@ module _ (words words' pictographs pictographs' : List ℕ) where
 
 -- The cells after a run: with a refusal as they were, else a record's cell has its answer, and a cell past the records is as it was.
 module _ (words pictographs out : List ℕ) where
-  pub refused_keeps : (r : Refusal) → run_verdict words pictographs (length out) ≡ Refused r → run_cells words pictographs out ≡ out
+  pub refused_keeps : (r : Refusal) → run_verdict words pictographs (length out) ≡ Err r → run_cells words pictographs out ≡ out
   refused_keeps r e = Written.refused_keeps (answer_at words pictographs) (length words) out (run_verdict words pictographs (length out)) r e
 
-  pub record_cell : (i : ℕ) → i < length words → run_verdict words pictographs (length out) ≡ Accepted → cell (run_cells words pictographs out) i ≡ answer_at words pictographs i
+  pub record_cell : (i : ℕ) → i < length words → run_verdict words pictographs (length out) ≡ Ok tt → cell (run_cells words pictographs out) i ≡ answer_at words pictographs i
   record_cell i h e = Written.record_cell (answer_at words pictographs) (length words) out (run_verdict words pictographs (length out)) i h e
 
-  pub later_cell : (k : ℕ) → run_verdict words pictographs (length out) ≡ Accepted → cell (run_cells words pictographs out) (length words + k) ≡ cell out (length words + k)
+  pub later_cell : (k : ℕ) → run_verdict words pictographs (length out) ≡ Ok tt → cell (run_cells words pictographs out) (length words + k) ≡ cell out (length words + k)
   later_cell k e = Written.later_cell (answer_at words pictographs) (length words) out (run_verdict words pictographs (length out)) k e
 
 -- no two results fulfil the contracts (SCOPE 10)

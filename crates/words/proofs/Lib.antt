@@ -1,5 +1,4 @@
 pub mod Accepted
-pub mod Chain
 pub mod Effects
 pub mod Laws
 pub mod Masks

@@ -1,4 +1,5 @@
 -- The refusals of the word run and of the word step: each says what the table of SCOPE 5.1 says. Assumes nothing.
+use Rattle.std.specs.Prelude.{Ok, Err}
 use Prim.Native.Nat.{ℕ}
 use mathlib.Core.Path.{◌≡◌, refl, ◌∙◌}
 use mathlib.Core.Bool.{Bool, true, false}
@@ -7,12 +8,11 @@ use Rattle.classes.specs.WordBreak as WordBreak
 use Rattle.records.specs.Refusals.{refuse, ◌⊳◌, over}
 use Rattle.records.specs.Offences.{word_table_of, room_line, ByTable}
 use Rattle.records.specs.declared.Side.TheVariants.{Record, Neither}
-use Rattle.records.specs.declared.Verdict.{Verdict}
-use Rattle.records.specs.declared.Verdict.TheVariants.{Accepted, Refused}
+use Rattle.records.specs.Verdict.{Verdict}
 use Rattle.records.proofs.Tables.{first_of, by_table}
 use Rattle.records.proofs.Judged.{marked_run_by_table}
 use Rattle.words.specs.declared.WordState.{WordState}
-use Rattle.words.specs.declared.Next.{Next}
+use Rattle.words.specs.Next.{Next}
 use Rattle.words.specs.Refusals.{step_table}
 use Rattle.words.specs.Rules.{exit_of}
 use Rattle.words.specs.Step.{bad_record, bad_state, step_verdict, step_under, step_of}
@@ -29,14 +29,14 @@ module _ (s : WordState) (class pictograph : ℕ) (next : Next) where
   unfolding step_verdict over
   step_lines = go (bad_record class pictograph next) (bad_state s)
     where
-      go : (a b : Bool) → refuse a 4 Record 0 ⊳ refuse b 8 Neither 0 ≡ ((refuse a 4 Record 0 ⊳ Accepted) ⊳ Accepted) ⊳ refuse b 8 Neither 0 ⊳ Accepted
+      go : (a b : Bool) → refuse a 4 Record 0 ⊳ refuse b 8 Neither 0 ≡ ((refuse a 4 Record 0 ⊳ (Ok tt)) ⊳ (Ok tt)) ⊳ refuse b 8 Neither 0 ⊳ (Ok tt)
       go true b = refl
       go false true = refl
       go false false = refl
 
   step_says : (v : Verdict) → (step_under v s class pictograph next).verdict ≡ v
-  step_says Accepted = leaves_accepts s class (exit_of s class pictograph next)
-  step_says (Refused r) = refl
+  step_says (Ok _) = leaves_accepts s class (exit_of s class pictograph next)
+  step_says (Err r) = refl
 
   -- The step's refusals: 4 of the record, index 0, and 8.
   pub word_step_by_table : ByTable (4 ∷ 8 ∷ []) (step_table s class pictograph next) (step_of s class pictograph next).verdict

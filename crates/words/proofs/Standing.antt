@@ -1,5 +1,6 @@
 -- The table of the word run is the word machine: the row stands for the state after each record. Assumes nothing.
-use Prim.Native.Nat.{ℕ, ◌+◌, ◌-◌, ◌*◌, ◌/◌, ◌%◌, ◌<◌, ◌≤◌}
+use Rattle.std.specs.Prelude.{Ok, Some, None}
+use Prim.Native.Nat.{ℕ, ◌+◌, ◌-◌, ◌*◌, ◌/◌, ◌%◌, ◌<◌}
 use mathlib.Core.Path.{◌≡◌, refl, sym, subst, ◌∙◌, ap}
 use mathlib.Core.Bool.{Bool, true, false, cond, not, ◌&&◌}
 use mathlib.Core.List.{List, [], ◌∷◌}
@@ -7,7 +8,7 @@ use native.Mathlib.Numerals.{add-one}
 use native.Mathlib.Omega.{arith}
 use lib.Dec.{eqb, leb, ltb}
 use lib.ListN.{length, get_or, set}
-use borrow.Author.Tests.{eqb-true, ltb-true, leb-false, lt-ltb, le-ltb}
+use borrow.Author.Tests.{eqb-true, ltb-true, leb-false}
 use Rattle.basics.specs.Sets.{every}
 use Rattle.basics.proofs.Columns.{Written, written_more}
 use Rattle.basics.proofs.Sets.{every_at}
@@ -15,11 +16,9 @@ use Rattle.basics.proofs.Tests.{both, neither}
 use Rattle.classes.specs.WordBreak.{len, ALetter, HL, NU, RI}
 use Rattle.records.specs.Text.{cell}
 use Rattle.records.specs.Refusals.{word_verdict, outside}
-use Rattle.records.specs.declared.Verdict.TheVariants.{Accepted}
 use Rattle.words.specs.declared.WordState.{WordState}
 use Rattle.words.specs.declared.WordStep.{WordStep}
-use Rattle.words.specs.declared.Next.{Next}
-use Rattle.words.specs.declared.Next.TheVariants.{Class, End}
+use Rattle.words.specs.Next.{Next}
 use Rattle.words.specs.Rules.{AHLetter, next_in, pair_rules, letter_rules, number_rules, flag_rules, exit_of, leaves, ruled}
 use Rattle.words.specs.Run.{next_at, step_from, state_at, answer_at}
 use Rattle.words.specs.Step.{start_state, next_codes}
@@ -69,7 +68,7 @@ told_by row symbol r k = (same r.state (state_of k) && ltb k 27) && (eqb (row_af
 
 -- a next record of each group
 unfoldable sample_of : ℕ → Next
-sample_of g = cond (eqb g 1) (Class ALetter) (cond (eqb g 2) (Class HL) (cond (eqb g 3) (Class NU) End))
+sample_of g = cond (eqb g 1) (Some ALetter) (cond (eqb g 2) (Some HL) (cond (eqb g 3) (Some NU) None))
 
 unfoldable okay : ℕ → ℕ → ℕ → ℕ → Bool
 okay k class mark group =
@@ -132,13 +131,13 @@ asked_alike a b =
 unfoldable grouped : Next → Bool
 grouped next = asked_alike next (sample_of (group_of next)) && ltb (group_of next) 4
 
-all_grouped : every (λ c. grouped (Class c)) len ≡ true
+all_grouped : every (λ c. grouped (Some c)) len ≡ true
 unfolding every grouped asked_alike alike sample_of group_of word_groups
 all_grouped = refl
 
 listed_grouped : (next : Next) → outside (next_codes next) ≡ false → grouped next ≡ true
-listed_grouped (Class c) h = every_at (λ c. grouped (Class c)) len c all_grouped (leb-false _ _ (neither (leb len c) false h).0)
-listed_grouped End h = unfold grouped asked_alike alike sample_of group_of in refl
+listed_grouped (Some c) h = every_at (λ c. grouped (Some c)) len c all_grouped (leb-false _ _ (neither (leb len c) false h).0)
+listed_grouped None h = unfold grouped asked_alike alike sample_of group_of in refl
 
 alike_ruled : (s : WordState) (class mark : ℕ) (a b : Next) → asked_alike a b ≡ true → ruled s class mark a ≡ ruled s class mark b
 unfolding asked_alike exit_of letter_rules number_rules
@@ -192,7 +191,7 @@ unfolding state_of number_of row_of word_rows
 start_stands = record { known = refl; below = omega arith; in_row = refl }
 
 -- a turn at a record of an accepted text: w and p are its cells, and what is read and looked up for it has names
-module _ (words pictographs : List ℕ) (accepted : word_verdict words pictographs ≡ Accepted) (i : ℕ) (inside : i < length words)
+module _ (words pictographs : List ℕ) (accepted : word_verdict words pictographs ≡ Ok tt) (i : ℕ) (inside : i < length words)
     (row : ℕ) (stands : Stands (state_at words pictographs i) row) (w p group symbol : ℕ) (ew : w ≡ cell words i) (ep : p ≡ cell pictographs i)
     (eg : group ≡ group_of (next_at words (i + 1))) (es : symbol ≡ symbol_of w p group) where
   here : Turned (step_from words pictographs (state_at words pictographs i) i) symbol row
@@ -215,14 +214,3 @@ module _ (words pictographs : List ℕ) (accepted : word_verdict words pictograp
   turn_written out₀ out answer e h cells =
       let a : answer ≡ answer_at words pictographs i = unfold answer_at in e ∙ here.1 in
       rw a (written_more (answer_at words pictographs) out₀ out i h cells)
-
--- # The look-ahead
-
-module _ (words groups : List ℕ) (i : ℕ) (e : groups ≡ word_groups) where
-  pub group_there : (class group : ℕ) → i < length words → class ≡ cell words i → group ≡ get_or groups class 0 → group ≡ group_of (next_at words i)
-  unfolding group_of next_at
-  group_there class group h ec eg = rw (lt-ltb _ _ h, eg, e, ec)
-
-  pub group_none : length words ≤ i → 0 ≡ group_of (next_at words i)
-  unfolding group_of next_at
-  group_none h = rw (le-ltb _ _ h)

@@ -5,3 +5,4 @@ pub mod Rules
 pub mod Run
 pub mod Step
 pub mod Table
+pub mod Next

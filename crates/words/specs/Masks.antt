@@ -1,10 +1,9 @@
 -- The masks of `check_word` beside the lists of class names that stand for them (SCOPE 12.8): each test `mask & … != 0` of analyze.rs by
 -- its line, with the number that the Rust's constants come to, and the rule that asks it here. oracle/masks.py reads line and number
 -- from the Rust.
-use Rattle.std.specs.Prelude.{ℕ, ◌/◌, ◌%◌, ◌^◌, Bool, true, ◌&&◌, not, cond, List, [], ◌∷◌, eqb}
+use Rattle.std.specs.Prelude.{ℕ, ◌/◌, ◌%◌, ◌^◌, Bool, true, ◌&&◌, not, cond, List, [], ◌∷◌, eqb, Some}
 use Rattle.basics.specs.Sets.{member, every}
 use Rattle.classes.specs.WordBreak.{Other, ALetter, ML, NU, EX, len}
-use Rattle.words.specs.declared.Next.TheVariants.{Class}
 use Rattle.words.specs.Rules.{ignorable, by_newline, letter_run, mid_letter, number_run, mid_number, to_extender, from_extender}
 
 -- a test by a mask: its line, the mask, and the same test of a class here, the other classes of its rule being such as let it decide
@@ -31,12 +30,12 @@ masks =
     -- `AH_LETTER`, WB5 to WB9
     ∷ asks 155 0x00300 (λ a. letter_run a ALetter)
     ∷ asks 158 0x02300 (λ b. letter_run ALetter b)
-    ∷ asks 162 0x04C00 (λ b. mid_letter ALetter b (Class ALetter))
-    ∷ asks 170 0x00300 (λ c. mid_letter ALetter ML (Class c))
+    ∷ asks 162 0x04C00 (λ b. mid_letter ALetter b (Some ALetter))
+    ∷ asks 170 0x00300 (λ c. mid_letter ALetter ML (Some c))
     -- `NU`, WB8 to WB12
     ∷ asks 199 0x02000 (λ a. number_run a NU)
     ∷ asks 202 0x02300 (λ b. number_run NU b)
-    ∷ asks 206 0x05800 (λ b. mid_number NU b (Class NU))
+    ∷ asks 206 0x05800 (λ b. mid_number NU b (Some NU))
     -- `WB13_A` and `WB13_B`
     ∷ asks 228 0x32300 (λ a. to_extender a EX)
     ∷ asks 234 0x12300 (λ b. from_extender EX b)

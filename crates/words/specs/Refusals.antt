@@ -2,7 +2,7 @@
 use Rattle.std.specs.Prelude.{ℕ, [], ◌∷◌}
 use Rattle.records.specs.Offences.{line, Table}
 use Rattle.words.specs.declared.WordState.{WordState}
-use Rattle.words.specs.declared.Next.{Next}
+use Rattle.words.specs.Next.{Next}
 use Rattle.words.specs.Step.{bad_record, bad_state}
 
 -- the step: "4 (record, index 0) for the record's class, its mark or the class of the next record, then 8" (SCOPE 5.5)

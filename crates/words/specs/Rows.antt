@@ -1,14 +1,13 @@
 -- What only private contracts need. The word machine on numbers, by the lists that tools/words writes: a row stands for the states that
 -- no text tells apart, a symbol for what the rules ask of a record and of the next one.
-use Rattle.std.specs.Prelude.{ℕ, ◌+◌, ◌*◌, ◌/◌, ◌%◌, ◌^◌, get_or}
-use Rattle.words.specs.declared.Next.{Next}
-use Rattle.words.specs.declared.Next.TheVariants.{Class, End}
+use Rattle.std.specs.Prelude.{ℕ, ◌+◌, ◌*◌, ◌/◌, ◌%◌, ◌^◌, get_or, Some, None}
+use Rattle.words.specs.Next.{Next}
 use Rattle.words.specs.Table.{word_groups, word_symbols, word_nexts, word_answers}
 
 -- what the rules ask of the next record
 unfoldable pub group_of : Next → ℕ
-group_of (Class c) = get_or word_groups c 0
-group_of End = 0
+group_of (Some c) = get_or word_groups c 0
+group_of None = 0
 
 unfoldable pub symbol_of : ℕ → ℕ → ℕ → ℕ
 symbol_of class mark group = get_or word_symbols (class * 8 + mark * 4 + group) 0

@@ -3,15 +3,13 @@
 --
 -- `emoji` and `next_emoji` are no part of the state: the one exit that reads what they keep, `prev_emoji && a == ZWJ && emoji`,
 -- stands below `a == ZWJ && emoji`, which leaves for every record that it would leave for. So they never change an answer.
-use Rattle.std.specs.Prelude.{ℕ, ◌+◌, Bool, true, false, cond, ◌&&◌, ◌||◌, List, [], ◌∷◌, eqb, leb}
+use Rattle.std.specs.Prelude.{ℕ, ◌+◌, Bool, true, false, cond, ◌&&◌, ◌||◌, List, [], ◌∷◌, eqb, leb, Ok, Some, None}
 use Rattle.basics.specs.Choices.{◌⇒◌▹◌}
 use Rattle.basics.specs.Sets.{member}
 use Rattle.classes.specs.WordBreak.{CR, LF, NL, Extend, ZWJ, FO, WSegSpace, ALetter, HL, ML, MidNumLet, MN, NU, SQ, DQ, KA, EX, RI}
-use Rattle.records.specs.declared.Verdict.TheVariants.{Accepted}
 use Rattle.words.specs.declared.WordState.{WordState}
 use Rattle.words.specs.declared.WordStep.{WordStep}
-use Rattle.words.specs.declared.Next.{Next}
-use Rattle.words.specs.declared.Next.TheVariants.{Class, End}
+use Rattle.words.specs.Next.{Next}
 use Rattle.words.specs.declared.Exit.{Exit}
 use Rattle.words.specs.declared.Exit.TheVariants.{Begun, Released, Joined, Parted, Ignored, Held, Opened, Paired}
 
@@ -33,8 +31,8 @@ ignorable = Extend ∷ FO ∷ ZWJ ∷ []
 
 -- "it looks no further ahead" (SCOPE 7.2) than to the next record: `if let Some(c) = iter.clone().next()`
 abbrev pub next_in : List ℕ → Next → Bool
-next_in classes (Class c) = member classes c
-next_in classes End = false
+next_in classes (Some c) = member classes c
+next_in classes None = false
 
 -- WB3: CR × LF
 abbrev pub crlf : ℕ → ℕ → Bool
@@ -158,7 +156,7 @@ told previous prevent count answer =
     record {
       state = record { first = false; previous = previous; prevent = prevent; count = count };
       answer = answer;
-      verdict = Accepted;
+      verdict = Ok tt;
     }
 
 -- each exit's writes: to `prev` (b unless it is put back), to `prevent_next`, to `ri_count` (`reset_state` makes it 0), and the answer

@@ -1,20 +1,19 @@
 -- The word run: the step over two columns from the start state on.
-use Rattle.std.specs.Prelude.{ℕ, zero, suc, ◌+◌, cond, List, ltb, length}
+use Rattle.std.specs.Prelude.{ℕ, zero, suc, ◌+◌, cond, List, ltb, length, Some, None}
 use Rattle.basics.specs.Columns.{cells}
 use Rattle.records.specs.Text.{cell}
 use Rattle.records.specs.Refusals.{word_verdict}
 use Rattle.records.specs.Written.{roomy, written_under}
-use Rattle.records.specs.declared.Verdict.{Verdict}
+use Rattle.records.specs.Verdict.{Verdict}
 use Rattle.words.specs.declared.WordState.{WordState}
 use Rattle.words.specs.declared.WordStep.{WordStep}
-use Rattle.words.specs.declared.Next.{Next}
-use Rattle.words.specs.declared.Next.TheVariants.{Class, End}
+use Rattle.words.specs.Next.{Next}
 use Rattle.words.specs.Rules.{ruled}
 use Rattle.words.specs.Step.{start_state}
 
 -- the class of the record at an index, or none past the last
 unfoldable pub next_at : List ℕ → ℕ → Next
-next_at words i = cond (ltb i (length words)) (Class (cell words i)) End
+next_at words i = cond (ltb i (length words)) (Some (cell words i)) None
 
 -- the call of `check_word` at an index, from a state
 abbrev pub step_from : List ℕ → List ℕ → WordState → ℕ → WordStep

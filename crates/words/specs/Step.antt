@@ -1,14 +1,12 @@
 -- The word step: one record, with its refusals.
-use Rattle.std.specs.Prelude.{ℕ, Bool, true, false, ◌||◌, List, [], ◌∷◌, leb, ltb}
+use Rattle.std.specs.Prelude.{ℕ, Bool, true, false, ◌||◌, List, [], ◌∷◌, leb, ltb, Ok, Err, Some, None}
 use Rattle.classes.specs.WordBreak as WordBreak
 use Rattle.records.specs.Refusals.{refuse, ◌⊳◌, Coded, coded, mark, outside}
 use Rattle.records.specs.declared.Side.TheVariants.{Record, Neither}
-use Rattle.records.specs.declared.Verdict.{Verdict}
-use Rattle.records.specs.declared.Verdict.TheVariants.{Accepted, Refused}
+use Rattle.records.specs.Verdict.{Verdict}
 use Rattle.words.specs.declared.WordState.{WordState}
 use Rattle.words.specs.declared.WordStep.{WordStep}
-use Rattle.words.specs.declared.Next.{Next}
-use Rattle.words.specs.declared.Next.TheVariants.{Class, End}
+use Rattle.words.specs.Next.{Next}
 use Rattle.words.specs.Rules.{ruled}
 
 -- "`WordState::START` is first, Other, no, 0." (SCOPE 7.1)
@@ -17,8 +15,8 @@ start_state = record { first = true; previous = WordBreak.Other; prevent = false
 
 -- the next record's class, if there is one, has to be in the list too
 abbrev pub next_codes : Next → List Coded
-next_codes (Class c) = coded c WordBreak.len ∷ []
-next_codes End = []
+next_codes (Some c) = coded c WordBreak.len ∷ []
+next_codes None = []
 
 -- a class or a mark outside its list
 abbrev pub bad_record : ℕ → ℕ → Next → Bool
@@ -35,8 +33,8 @@ step_verdict s class pictograph next =
 
 -- with a refusal "the state that it was given and the answer 0" (SCOPE 5.4)
 abbrev pub step_under : Verdict → WordState → ℕ → ℕ → Next → WordStep
-step_under Accepted s class pictograph next = ruled s class pictograph next
-step_under (Refused r) s class pictograph next = record { state = s; answer = 0; verdict = Refused r }
+step_under (Ok _) s class pictograph next = ruled s class pictograph next
+step_under (Err r) s class pictograph next = record { state = s; answer = 0; verdict = Err r }
 
 abbrev pub step_of : WordState → ℕ → ℕ → Next → WordStep
 step_of s class pictograph next = step_under (step_verdict s class pictograph next) s class pictograph next

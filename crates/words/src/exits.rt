@@ -1,4 +1,6 @@
 // The exits of `check_word` in its order, and what each leaves behind.
+#![tactic(auto, unfolding(crate::specs::Rules::pair_rules, crate::specs::Rules::letter_rules, crate::specs::Rules::number_rules, crate::specs::Rules::flag_rules, crate::specs::Rules::exit_of, crate::specs::Rules::leaves))]
+
 ghost use Rattle.std.specs.Prelude.{◌≡◌};
 ghost use Rattle.words.specs.Rules.{pair_rules, letter_rules, number_rules, flag_rules, exit_of, leaves, ruled};
 
@@ -8,88 +10,69 @@ use crate::rules::{
     is_zwj_pictograph,
 };
 use crate::sets::is_ignorable;
-use crate::{Exit, Next, WordState, WordStep};
+use crate::{Exit, WordState, WordStep};
 use classes::word_break;
-use records::Verdict;
 
-pub fn pair_exit(a: u8, b: u8, pictograph: u8, next: Next, count: u8) -> Exit
+pub fn pair_exit(a: u8, b: u8, pictograph: u8, next: Option<u8>, count: u8) -> Exit
     ensures { result ≡ pair_rules a b pictograph (letter_rules a b next (number_rules a b next (flag_rules a b count))) }
 {
     if is_crlf(a, b) {
-        return Exit::Joined;
+        Exit::Joined
+    } else if is_by_newline(a, b) {
+        Exit::Parted
+    } else if is_zwj_pictograph(a, pictograph) {
+        Exit::Joined
+    } else if is_ignorable(b) {
+        // WB4
+        Exit::Ignored
+    } else if is_space_run(a, b) {
+        Exit::Joined
+    } else {
+        letter_exit(a, b, next, count)
     }
-    if is_by_newline(a, b) {
-        return Exit::Parted;
-    }
-    if is_zwj_pictograph(a, pictograph) {
-        return Exit::Joined;
-    }
-    // WB4
-    if is_ignorable(b) {
-        return Exit::Ignored;
-    }
-    if is_space_run(a, b) {
-        return Exit::Joined;
-    }
-    letter_exit(a, b, next, count)
 }
 
-pub fn letter_exit(a: u8, b: u8, next: Next, count: u8) -> Exit
+pub fn letter_exit(a: u8, b: u8, next: Option<u8>, count: u8) -> Exit
     ensures { result ≡ letter_rules a b next (number_rules a b next (flag_rules a b count)) }
 {
     if is_letter_run(a, b) {
-        return Exit::Joined;
+        Exit::Joined
+    } else if is_mid_letter(a, b, next) {
+        Exit::Held
+    } else if is_hebrew_single(a, b) {
+        Exit::Joined
+    } else if is_hebrew_double(a, b, next) {
+        Exit::Held
+    } else {
+        number_exit(a, b, next, count)
     }
-    if is_mid_letter(a, b, next) {
-        return Exit::Held;
-    }
-    if is_hebrew_single(a, b) {
-        return Exit::Joined;
-    }
-    if is_hebrew_double(a, b, next) {
-        return Exit::Held;
-    }
-    number_exit(a, b, next, count)
 }
 
-pub fn number_exit(a: u8, b: u8, next: Next, count: u8) -> Exit
+pub fn number_exit(a: u8, b: u8, next: Option<u8>, count: u8) -> Exit
     ensures { result ≡ number_rules a b next (flag_rules a b count) }
 {
     if is_number_run(a, b) {
-        return Exit::Joined;
+        Exit::Joined
+    } else if is_mid_number(a, b, next) {
+        Exit::Held
+    } else if is_katakana_run(a, b) || is_to_extender(a, b) || is_from_extender(a, b) {
+        Exit::Joined
+    } else {
+        flag_exit(a, b, count)
     }
-    if is_mid_number(a, b, next) {
-        return Exit::Held;
-    }
-    if is_katakana_run(a, b) {
-        return Exit::Joined;
-    }
-    if is_to_extender(a, b) {
-        return Exit::Joined;
-    }
-    if is_from_extender(a, b) {
-        return Exit::Joined;
-    }
-    flag_exit(a, b, count)
 }
 
 // WB15, WB16
 pub fn flag_exit(a: u8, b: u8, count: u8) -> Exit
     ensures { result ≡ flag_rules a b count }
 {
-    if 2 <= count {
-        if b == word_break::RI {
-            return Exit::Opened;
-        }
-        return Exit::Parted;
+    if b != word_break::RI {
+        Exit::Parted
+    } else if count < 2 && a == word_break::RI {
+        Exit::Paired(count + 1)
+    } else {
+        Exit::Opened
     }
-    if b == word_break::RI {
-        if a == word_break::RI {
-            return Exit::Paired(count + 1);
-        }
-        return Exit::Opened;
-    }
-    Exit::Parted
 }
 
 pub fn told(previous: u8, prevent: bool, count: u8, answer: u8) -> WordStep
@@ -103,31 +86,33 @@ pub fn told(previous: u8, prevent: bool, count: u8, answer: u8) -> WordStep
             count,
         },
         answer,
-        verdict: Verdict::Accepted,
+        verdict: Ok(()),
     }
 }
 
 impl WordState {
-    pub(crate) fn exit(self, class: u8, pictograph: u8, next: Next) -> Exit
+    pub(crate) fn exit(self, class: u8, pictograph: u8, next: Option<u8>) -> Exit
         ensures { result ≡ exit_of self class pictograph next }
     {
         if self.first {
-            return Exit::Begun;
+            Exit::Begun
+        } else if self.prevent {
+            Exit::Released
+        } else {
+            pair_exit(self.previous, class, pictograph, next, self.count)
         }
-        if self.prevent {
-            return Exit::Released;
-        }
-        pair_exit(self.previous, class, pictograph, next, self.count)
     }
 
     // Of a first record only RI sets the count.
     pub(crate) fn begun(self, class: u8) -> WordStep
         ensures { result ≡ leaves self class Exit.Begun }
     {
-        if class == word_break::RI {
-            return told(class, self.prevent, 1, 1);
-        }
-        told(class, self.prevent, self.count, 1)
+        let count = if class == word_break::RI {
+            1
+        } else {
+            self.count
+        };
+        told(class, self.prevent, count, 1)
     }
 
     pub(crate) fn leave(self, class: u8, exit: Exit) -> WordStep
@@ -146,7 +131,7 @@ impl WordState {
     }
 
     // One call of `check_word`, on a record and a state that are not judged here.
-    pub(crate) fn rule(self, class: u8, pictograph: u8, next: Next) -> WordStep
+    pub(crate) fn rule(self, class: u8, pictograph: u8, next: Option<u8>) -> WordStep
         ensures { result ≡ ruled self class pictograph next }
     {
         self.leave(class, self.exit(class, pictograph, next))

@@ -13,12 +13,13 @@ ghost use Rattle.words.specs.Step.{start_state, step_of};
 ghost use Rattle.words.specs.Run.{run_verdict, run_cells};
 
 use classes::word_break;
-use records::{Verdict, check_words, judge_room};
+pub use judge::is_bad_next;
+use records::{Refusal, check_words, judge_room};
 use rows::write_answers;
 
 // What the machine keeps between two records: whether none came yet, the class before, whether the next record has no boundary before
 // it, and the count of RI, 0 to 2. Every value is allowed, and the step refuses those that no run has.
-#[derive(Clone, Copy)]
+#[derive(Clone, Copy, Debug, PartialEq, Eq)]
 pub struct WordState {
     pub first: bool,
     pub previous: u8,
@@ -26,23 +27,17 @@ pub struct WordState {
     pub count: u8,
 }
 
-// The class of the next record, or none at the end of the text.
-#[derive(Clone, Copy)]
-pub enum Next {
-    Class(u8),
-    End,
-}
-
 // What a step hands back: the new state, the answer (1 where a word boundary stands before the record) and the verdict.
-#[derive(Clone, Copy)]
+// With a refusal a step hands back the same state and the answer 0, which its contract says (5.4): so the verdict stands beside them, no Result.
+#[derive(Clone, Copy, Debug, PartialEq, Eq)]
 pub struct WordStep {
     pub state: WordState,
     pub answer: u8,
-    pub verdict: Verdict,
+    pub verdict: Result<(), Refusal>,
 }
 
 // How `check_word` is left.
-#[derive(Clone, Copy)]
+#[derive(Clone, Copy, Debug, PartialEq, Eq)]
 pub enum Exit {
     // The text's first record.
     Begun,
@@ -78,30 +73,27 @@ impl WordState {
     }
 
     // One record: the state after it and its answer, or a refusal with the same state and the answer 0.
-    pub fn step(self, class: u8, pictograph: u8, next: Next) -> WordStep
+    pub fn step(self, class: u8, pictograph: u8, next: Option<u8>) -> WordStep
         ensures { result ≡ step_of self class pictograph next }
     {
-        let verdict = self.judge(class, pictograph, next);
-        let Verdict::Accepted = verdict else {
-            return WordStep {
+        match self.judge(class, pictograph, next) {
+            Ok(()) => self.rule(class, pictograph, next),
+            Err(refusal) => WordStep {
                 state: self,
                 answer: 0,
-                verdict,
-            };
-        };
-        self.rule(class, pictograph, next)
+                verdict: Err(refusal),
+            },
+        }
     }
 }
 
 // The answers to a whole text, one cell a record.
-pub fn run(words: &[u8], pictographs: &[u8], out: &mut [u8]) -> Verdict
+#[tactic(auto, unfolding(crate::specs::Run::run_verdict))]
+pub fn run(words: &[u8], pictographs: &[u8], out: &mut [u8]) -> Result<(), Refusal>
     ensures value { result ≡ run_verdict words.now pictographs.now (length out.old) }
     ensures out_after { out.new ≡ run_cells words.now pictographs.now out.old }
 {
-    let verdict = judge_room(check_words(words, pictographs), words.len(), out.len());
-    let Verdict::Accepted = verdict else {
-        return verdict;
-    };
+    judge_room(check_words(words, pictographs), words.len(), out.len())?;
     write_answers(words, pictographs, out);
-    Verdict::Accepted
+    Ok(())
 }

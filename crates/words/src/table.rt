@@ -1,10 +1,10 @@
 // Written by tools/words: the table of the word run.
 
 // The group of each class.
-pub const GROUPS: [u8; 19] = [0, 0, 0, 0, 0, 0, 0, 0, 1, 2, 0, 0, 0, 3, 0, 0, 0, 0, 0];
+pub static GROUPS: [u8; 19] = [0, 0, 0, 0, 0, 0, 0, 0, 1, 2, 0, 0, 0, 3, 0, 0, 0, 0, 0];
 
 // The symbol of each class, mark and group of the next class.
-pub const SYMBOLS: [u8; 152] = [
+pub static SYMBOLS: [u8; 152] = [
     0, 0, 0, 0, 1, 1, 1, 1, 2, 2, 2, 2, 2, 2, 2, 2, 3, 3, 3, 3, 3, 3, 3, 3, 4, 4, 4, 4, 4, 4, 4, 4,
     5, 5, 5, 5, 6, 6, 6, 6, 7, 7, 7, 7, 7, 7, 7, 7, 5, 5, 5, 5, 6, 6, 6, 6, 8, 8, 8, 8, 9, 9, 9, 9,
     10, 10, 10, 10, 11, 11, 11, 11, 12, 12, 12, 12, 13, 13, 13, 13, 0, 14, 14, 0, 1, 15, 15, 1, 0,
@@ -14,7 +14,7 @@ pub const SYMBOLS: [u8; 152] = [
 ];
 
 // The next rows of each symbol, four bits for each row.
-pub const NEXTS: [u64; 32] = [
+pub static NEXTS: [u64; 32] = [
     76861433640456465,
     76861433640456465,
     153722867280912930,
@@ -50,7 +50,7 @@ pub const NEXTS: [u64; 32] = [
 ];
 
 // The answers of each symbol, one bit for each row.
-pub const ANSWERS: [u16; 32] = [
+pub static ANSWERS: [u16; 32] = [
     16383, 16367, 16383, 16379, 16383, 13, 13, 13, 16351, 16335, 14911, 14895, 14911, 14895, 16191,
     16175, 16127, 16111, 14911, 14895, 16255, 15999, 16239, 15983, 16255, 16239, 14847, 14831,
     14399, 14383, 10239, 10223,

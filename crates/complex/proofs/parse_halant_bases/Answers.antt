@@ -1,10 +1,6 @@
 use Rattle.complex.specs.Grammar.{halant, halant_base}
 use Rattle.parse.proofs.Rules.{loop_turns, loop_leaves, falls}
-use mathlib.Core.Path.{refl}
 use Rattle.complex.proofs.parse_halant_bases.Goals as goal
-
-pub loop-s-init : goal.loop-s-init
-loop-s-init c = refl
 
 pub loop-s-smaller : goal.loop-s-smaller
 loop-s-smaller c = unfold halant_base halant in search falls

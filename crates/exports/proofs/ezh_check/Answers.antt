@@ -1,4 +1,3 @@
-use Rattle.records.specs.Text.{text_in}
 use Rattle.exports.specs.Calls.{check_verdict}
 use Rattle.exports.proofs.Refusals.{three_tight, three_told}
 use Rattle.exports.proofs.ezh_check.Goals as goal
@@ -7,5 +6,4 @@ pub returns-then-results-lt-CHECK_ROOM : goal.returns-then-results-lt-CHECK_ROOM
 returns-then-results-lt-CHECK_ROOM c = unfold check_verdict in three_tight _ _ c.if-results-lt-CHECK_ROOM.true
 
 pub returns : goal.returns
-unfolding text_in
-returns c = unfold check_verdict in three_told _ _ _ _ _ c.if-results-lt-CHECK_ROOM.false c.check_asked-verdict.ensures c.tell.ensures
+returns c = unfold check_verdict in three_told _ _ _ _ _ c.if-results-lt-CHECK_ROOM.false c.check_asked.ensures c.tell.ensures

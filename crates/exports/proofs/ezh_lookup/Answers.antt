@@ -6,4 +6,4 @@ pub returns-then-results-lt-CHECK_ROOM : goal.returns-then-results-lt-CHECK_ROOM
 returns-then-results-lt-CHECK_ROOM c = lookup_tight _ (ranges _ _ _ _) (ranges _ _ _ _) _ _ _ c.if-results-lt-CHECK_ROOM.true
 
 pub returns : goal.returns
-returns c = lookup_told _ (ranges _ _ _ _) (ranges _ _ _ _) _ _ _ _ _ _ _ _ c.if-results-lt-CHECK_ROOM.false c.lookup-verdict.ensures.value c.lookup-verdict.ensures.breaks_after c.lookup-verdict.ensures.words_after c.tell.ensures
+returns c = lookup_told _ (ranges _ _ _ _) (ranges _ _ _ _) _ _ _ _ _ _ _ _ c.if-results-lt-CHECK_ROOM.false c.lookup.ensures.value c.lookup.ensures.breaks_after c.lookup.ensures.words_after c.tell.ensures

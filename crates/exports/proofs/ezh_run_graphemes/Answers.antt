@@ -6,4 +6,4 @@ pub returns-then-results-lt-CHECK_ROOM : goal.returns-then-results-lt-CHECK_ROOM
 returns-then-results-lt-CHECK_ROOM c = answered_tight _ _ _ _ c.if-results-lt-CHECK_ROOM.true refl
 
 pub returns : goal.returns
-returns c = answered_told _ _ _ _ _ _ _ c.if-results-lt-CHECK_ROOM.false c.graphemes_forward-verdict.ensures.value c.graphemes_forward-verdict.ensures.out_after c.tell.ensures
+returns c = answered_told _ _ _ _ _ _ _ c.if-results-lt-CHECK_ROOM.false c.graphemes_forward.ensures.value c.graphemes_forward.ensures.out_after c.tell.ensures

@@ -1,4 +1,3 @@
-use Rattle.records.specs.Text.{text_in}
 use Rattle.exports.proofs.StepLaws.{step_fits, step_tight, step_told}
 use Rattle.exports.proofs.ezh_step.Goals as goal
 
@@ -9,5 +8,4 @@ pub hand_over-requires : goal.hand_over-requires
 hand_over-requires c = step_fits _ _ _ _ _ _ _ _ _ _ c.shortest.ensures c.next_asked-answer.ensures
 
 pub returns : goal.returns
-unfolding text_in
 returns c = step_told _ _ _ _ _ _ _ _ _ _ _ _ _ _ _ _ _ c.if-results-lt-STEP_ROOM.false c.shortest.ensures c.next_asked-answer.ensures c.hand_over.ensures

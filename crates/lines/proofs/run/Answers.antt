@@ -1,11 +1,15 @@
-use Rattle.lines.proofs.RunLaws.{ran_refused, ran_short, ran_whole}
+use Rattle.lines.proofs.RunLaws.{word_run_passes, run_whole}
 use Rattle.lines.proofs.run.Goals as goal
 
-pub returns-in_default : goal.returns-in_default
-returns-in_default c = let all = ran_refused _ _ _ _ _ _ _ c.check-checked.ensures _ c.in_default.is in record { value = all.0; out_after = all.1 }
+pub returns-in_err-run-clause-value : goal.returns-in_err-run-clause-value
+returns-in_err-run-clause-value c =
+    let passes = word_run_passes _ _ _ _ _ _ _ c.check.ensures c.judge_room.ensures c.in_ok-judge_room.was in
+    cc (passes, c.run.ensures.value, c.in_err-run.was)
 
-pub returns-then-out-lines : goal.returns-then-out-lines
-returns-then-out-lines c = let all = ran_short _ _ _ _ _ _ _ c.check-checked.ensures _ c.refused.ensures c.in-Accepted.is c.if-out-lines.true in record { value = all.0; out_after = all.1 }
+pub returns-in_err-run-clause-out_after : goal.returns-in_err-run-clause-out_after
+returns-in_err-run-clause-out_after c =
+    let passes = word_run_passes _ _ _ _ _ _ _ c.check.ensures c.judge_room.ensures c.in_ok-judge_room.was in
+    cc (passes, c.run.ensures.value, c.in_err-run.was)
 
-pub returns : goal.returns
-returns c = let all = ran_whole _ _ _ _ _ c.args.out.now _ c.check-checked.ensures _ _ c.in-Accepted.is c.if-out-lines.false c.run.ensures.out_after c.lay.ensures in record { value = all.0; out_after = all.1 }
+pub returns-clause-out_after : goal.returns-clause-out_after
+returns-clause-out_after c = run_whole _ _ _ _ _ _ _ c.check.ensures c.judge_room.ensures c.in_ok-judge_room.was _ _ _ c.run.ensures.out_after c.lay.ensures

@@ -11,5 +11,5 @@ returns-then-kind_is c = unfold cluster in search rules depth 14
 pub returns-then-is_alone : goal.returns-then-is_alone
 returns-then-is_alone c = unfold cluster in search rules depth 14
 
-pub returns : goal.returns
-returns c = unfold cluster in search rules depth 14
+pub returns-else-is_alone : goal.returns-else-is_alone
+returns-else-is_alone c = unfold cluster in search rules depth 14

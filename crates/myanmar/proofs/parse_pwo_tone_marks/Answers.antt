@@ -1,10 +1,6 @@
-use mathlib.Core.Path.{refl}
 use Rattle.myanmar.specs.Grammar.{pwo_tone_mark}
 use Rattle.parse.proofs.Rules.{loop_turns, loop_leaves, falls}
 use Rattle.myanmar.proofs.parse_pwo_tone_marks.Goals as goal
-
-pub loop-s-init : goal.loop-s-init
-loop-s-init c = refl
 
 pub loop-s-smaller : goal.loop-s-smaller
 loop-s-smaller c = unfold pwo_tone_mark in search falls

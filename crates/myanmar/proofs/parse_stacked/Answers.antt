@@ -1,10 +1,6 @@
-use mathlib.Core.Path.{refl}
 use Rattle.myanmar.specs.Grammar.{stacked}
 use Rattle.parse.proofs.Rules.{loop_turns, loop_leaves, falls}
 use Rattle.myanmar.proofs.parse_stacked.Goals as goal
-
-pub loop-s-init : goal.loop-s-init
-loop-s-init c = refl
 
 pub loop-s-smaller : goal.loop-s-smaller
 loop-s-smaller c = unfold stacked in search falls

@@ -1,10 +1,6 @@
-use mathlib.Core.Path.{refl}
 use Rattle.parse.proofs.Rules.{loop_turns, loop_leaves, falls}
 use Rattle.simple.specs.Grammar.{extension, extend, combining}
 use Rattle.simple.proofs.parse_extensions.Goals as goal
-
-pub loop-s-init : goal.loop-s-init
-loop-s-init c = refl
 
 pub loop-s-smaller : goal.loop-s-smaller
 loop-s-smaller c = unfold extension extend combining in search falls

@@ -1,9 +1,5 @@
 use Rattle.cases.proofs.Pairs.{Bytes}
-use Prim.Native.Nat.{◌-◌}
 use Rattle.cases.proofs.blocks.bytes.Given as goal
 
 abbrev pub invariant-loop-i : goal.invariant-loop-i
 invariant-loop-i l = Bytes l.digits l.initial.out l.most l.out l.i
-
-abbrev pub decreases-loop-i : goal.decreases-loop-i
-decreases-loop-i l = l.most - l.i

@@ -1,18 +1,10 @@
-use Rattle.basics.specs.Columns.{cells}
-use Rattle.cases.proofs.Fields.{column_more, column_all}
-use Rattle.cases.specs.Spans.{rest}
-use mathlib.Core.Path.{refl}
-use borrow.Author.Rules.{rules}
+use Rattle.std.proofs.Common.{rules, tests}
+use Rattle.cases.specs.Items.{field_of, cell_of}
+use Rattle.cases.proofs.Filling.{filled_cells}
+use native.Mathlib.Omega.{arith}
 use Rattle.cases.proofs.columns.column8.Goals as goal
 
-pub loop-i-init : goal.loop-i-init
-loop-i-init c = unfold rest cells in (search rules, (refl, (refl, refl)))
-
-pub loop-i-smaller : goal.loop-i-smaller
-loop-i-smaller c = search rules
-
-pub loop-i-preserved : goal.loop-i-preserved
-loop-i-preserved c = column_more _ _ _ _ _ _ _ c.loop-i.at _ c.loop-i.invariant c.least-most.ensures.upper_bound c.loop-i-test.true _ c.span_at.ensures _ c.field8.ensures _ c.next_of-at.ensures
-
-pub returns : goal.returns
-returns c = record { value = c.least-most.ensures.value; prefix_len = (column_all _ _ _ _ _ _ _ c.loop-i.at _ c.loop-i.invariant c.least-most.ensures.upper_bound c.loop-i-test.false).0; out_after = (column_all _ _ _ _ _ _ _ c.loop-i.at _ c.loop-i.invariant c.least-most.ensures.upper_bound c.loop-i-test.false).1 }
+pub returns-clause-out_after : goal.returns-clause-out_after
+unfolding cell_of
+returns-clause-out_after c =
+    (filled_cells (field_of 10 255 c.args.k) _ _ _ _ _ (omega (arith, c.column.ensures.value)) (λ x r h. search (rules, tests)) c.column.ensures.written).1

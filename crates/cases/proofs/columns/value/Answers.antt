@@ -1,9 +1,5 @@
-use Rattle.cases.proofs.Fields.{fields, value_within}
-use borrow.Author.Rules.{rules}
+use Rattle.cases.proofs.Fields.{value_within}
 use Rattle.cases.proofs.columns.value.Goals as goal
 
-pub returns-in-Value : goal.returns-in-Value
-returns-in-Value c = record { value = search fields; upper_bound = search value_within }
-
-pub returns-in-Nothing : goal.returns-in-Nothing
-returns-in-Nothing c = record { value = search fields; upper_bound = search rules }
+pub returns-clause-upper_bound : goal.returns-clause-upper_bound
+returns-clause-upper_bound c = value_within _ _ _ _ _ c.read_number.ensures c.unwrap_or.ensures

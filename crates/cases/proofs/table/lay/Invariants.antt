@@ -5,7 +5,4 @@ use lib.Seq.{sets}
 use Rattle.cases.proofs.table.lay.Given as goal
 
 abbrev pub invariant-loop-i : goal.invariant-loop-i
-invariant-loop-i l = (l.from ≤ l.i) × ((l.i - l.from ≤ l.end - l.from) × (l.out ≡ sets l.initial.out l.from (replicate (l.i - l.from) l.v)))
-
-abbrev pub decreases-loop-i : goal.decreases-loop-i
-decreases-loop-i l = l.end - l.i
+invariant-loop-i l = (l.i - l.from ≤ l.end - l.from) × (l.out ≡ sets l.initial.out l.from (replicate (l.i - l.from) l.v))

@@ -1,4 +1,4 @@
-use Prim.Native.Nat.{◌+◌, ◌-◌, ◌≤◌}
+use Prim.Native.Nat.{◌≤◌}
 use mathlib.Core.Path.{◌≡◌}
 use lib.ListN.{length, take, drop}
 use lib.Seq.{sets}
@@ -6,8 +6,5 @@ use Rattle.cases.specs.Table.{table_to, reached, kept_of, most_kept}
 use Rattle.cases.specs.Spans.{rest}
 use Rattle.cases.proofs.table.lay_table.Given as goal
 
-abbrev pub invariant-loop-i : goal.invariant-loop-i
-invariant-loop-i l = (l.last ≤ length l.section) × ((l.i ≤ l.last + 1) × ((l.n ≤ most_kept) × ((drop l.at l.section ≡ rest 32 l.i l.section) × ((l.n ≡ kept_of (length (table_to l.section l.i))) × (l.out ≡ sets l.initial.out 0 (take reached (table_to l.section l.i)))))))
-
-abbrev pub decreases-loop-i : goal.decreases-loop-i
-decreases-loop-i l = l.last + 1 - l.i
+abbrev pub invariant-loop : goal.invariant-loop
+invariant-loop l = (l.n ≤ most_kept) × ((drop l.at l.section ≡ rest 32 l.counter l.section) × ((l.n ≡ kept_of (length (table_to l.section l.counter))) × (l.out ≡ sets l.initial.out 0 (take reached (table_to l.section l.counter)))))

@@ -2,4 +2,4 @@ use mathlib.Core.Path.{◌∙◌}
 use Rattle.exports.proofs.Kept.step.Goals as goal
 
 pub returns : goal.returns
-returns c = c.step.ensures ∙ simp (c.code-2.ensures, c.code.ensures, c.state-state.ensures)
+returns c = c.step.ensures ∙ simp (c.code-2.ensures, c.code.ensures, c.state.ensures)

@@ -8,4 +8,4 @@ returns-in_default c = step_told _ _ _ _ _ _ _ _ _ _ c.judge-verdict.ensures (rw
 
 pub returns : goal.returns
 unfolding line_judged
-returns c = step_told _ _ _ _ _ _ _ _ _ _ c.judge-verdict.ensures (rw (c.in-Accepted.is, c.code.ensures)) c.numbered-n.ensures c.put-2.ensures
+returns c = step_told _ _ _ _ _ _ _ _ _ _ c.judge-verdict.ensures (rw (c.in-Ok.is, c.from.ensures)) c.numbered-n.ensures c.put-2.ensures

@@ -8,4 +8,4 @@ returns-in_default c = step_told _ _ _ _ _ _ _ _ _ _ (judged_by _ _ _ _ c.judge-
 
 pub returns : goal.returns
 unfolding next_judged
-returns c = step_told _ _ _ _ _ _ _ _ _ _ (judged_by _ _ _ _ c.judge-verdict.ensures c.is_bad_next.ensures) (rw (c.in-Accepted.is, c.mark.ensures, c.mark-2.ensures, c.code.ensures)) c.numbered-n.ensures c.put-2.ensures
+returns c = step_told _ _ _ _ _ _ _ _ _ _ (judged_by _ _ _ _ c.judge-verdict.ensures c.is_bad_next.ensures) (rw (c.in-Ok.is, c.mark.ensures, c.mark-2.ensures, c.from.ensures)) c.numbered-n.ensures c.put-2.ensures

@@ -1,4 +1,3 @@
-use Prim.Native.Nat.{◌≤◌, ◌-◌}
 use mathlib.Core.Path.{◌≡◌}
 use lib.ListN.{length}
 use Rattle.basics.proofs.Columns.{Written}
@@ -7,7 +6,4 @@ use Rattle.lines.specs.Inner.{laid_at}
 use Rattle.lines.proofs.runs.lay.Given as goal
 
 abbrev pub invariant-loop-i : goal.invariant-loop-i
-invariant-loop-i l = (l.i ≤ length l.lines) × ((length l.out ≡ length l.initial.out) × ((l.state ≡ state_at l.table l.lines l.i) × Written (laid_at l.strength l.table l.lines l.initial.out) l.initial.out l.i l.out))
-
-abbrev pub decreases-loop-i : goal.decreases-loop-i
-decreases-loop-i l = length l.lines - l.i
+invariant-loop-i l = (length l.out ≡ length l.initial.out) × ((l.state ≡ state_at l.table l.lines l.i) × Written (laid_at l.strength l.table l.lines l.initial.out) l.initial.out l.i l.out)

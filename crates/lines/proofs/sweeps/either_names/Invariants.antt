@@ -1,11 +1,6 @@
-use Prim.Native.Nat.{◌-◌}
-use lib.ListN.{length}
 use Rattle.lines.specs.Rules.{row_in}
 use Rattle.lines.proofs.Greatest.{Swept}
 use Rattle.lines.proofs.sweeps.either_names.Given as goal
 
 abbrev pub invariant-loop-i : goal.invariant-loop-i
 invariant-loop-i l = Swept row_in l.rows l.first l.i l.one × Swept row_in l.rows l.second l.i l.two
-
-abbrev pub decreases-loop-i : goal.decreases-loop-i
-decreases-loop-i l = length l.first - l.i

@@ -1,9 +1,5 @@
 use Rattle.parse.proofs.Rules.{loop_turns, loop_leaves, falls}
-use mathlib.Core.Path.{refl}
 use Rattle.parse.proofs.Parse.accept_zero_or_many_as.Goals as goal
-
-pub loop-class-init : goal.loop-class-init
-loop-class-init c = refl
 
 pub loop-class-smaller : goal.loop-class-smaller
 loop-class-smaller c = search falls

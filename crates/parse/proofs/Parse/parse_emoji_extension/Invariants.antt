@@ -6,8 +6,8 @@ use mathlib.Core.Path.{◌≡◌}
 use Rattle.parse.proofs.Parse.parse_emoji_extension.Given as goal
 
 -- `parse::Parse::parse_emoji_extension` meets its contract. Assumes nothing.
-abbrev pub invariant-loop-s : goal.invariant-loop-s
-invariant-loop-s l = run (while (is_break EX) emoji_mark) l.text l.s ≡ run (while (is_break EX) emoji_mark) l.text l.initial.s
+abbrev pub invariant-loop-self : goal.invariant-loop-self
+invariant-loop-self l = run (while (is_break EX) emoji_mark) l.text l.self ≡ run (while (is_break EX) emoji_mark) l.text l.initial.self
 
-abbrev pub decreases-loop-s : goal.decreases-loop-s
-decreases-loop-s l = turns l.text l.s
+abbrev pub decreases-loop-self : goal.decreases-loop-self
+decreases-loop-self l = turns l.text l.self

@@ -1,18 +1,13 @@
+use native.Mathlib.Omega.{arith}
 use Rattle.properties.proofs.Grammar.{lead_over, lead_more, lead_here}
 use borrow.Author.Rules.{rules}
 use Rattle.properties.proofs.file_lines.leading.Goals as goal
 
-pub loop-i-init : goal.loop-i-init
-loop-i-init c = search rules
-
-pub loop-i-smaller : goal.loop-i-smaller
-loop-i-smaller c = search rules
-
 pub loop-i-preserved : goal.loop-i-preserved
-loop-i-preserved c = (search rules, lead_more _ _ c.loop-i.invariant.1 _ c.is_blank.ensures c.loop-i-test.true c.if-is_blank.true)
+loop-i-preserved c = (search rules, lead_more _ _ c.loop-i.invariant.1 _ c.is_blank.ensures (omega arith) c.if-not-is_blank.false)
 
-pub returns-else-is_blank : goal.returns-else-is_blank
-returns-else-is_blank c = record { value = lead_here _ _ c.loop-i.invariant.1 _ c.is_blank.ensures c.loop-i-test.true c.if-is_blank.false; upper_bound = search rules }
+pub returns-then-not-is_blank-clause-value : goal.returns-then-not-is_blank-clause-value
+returns-then-not-is_blank-clause-value c = lead_here _ _ c.loop-i.invariant.1 _ c.is_blank.ensures (omega arith) c.if-not-is_blank.true
 
-pub returns : goal.returns
-returns c = record { value = lead_over _ _ c.loop-i.invariant.1 c.loop-i-test.false; upper_bound = search rules }
+pub returns-clause-value : goal.returns-clause-value
+returns-clause-value c = lead_over _ _ c.loop-i.invariant.1 (omega arith) (omega arith)

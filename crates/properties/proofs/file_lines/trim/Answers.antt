@@ -9,4 +9,4 @@ pub slice_bounds-untailed-end : goal.slice_bounds-untailed-end
 slice_bounds-untailed-end c = search rules
 
 pub returns : goal.returns
-returns c = trims _ _ _ c.leading-i.ensures.value c.untailed.ensures
+returns c = trims _ _ _ c.leading.ensures.value c.untailed.ensures

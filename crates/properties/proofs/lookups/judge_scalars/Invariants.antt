@@ -1,4 +1,3 @@
-use Prim.Native.Nat.{◌-◌}
 use lib.ListN.{length}
 use Rattle.records.specs.Text.{cell}
 use Rattle.records.proofs.Over.{Rest}
@@ -7,6 +6,3 @@ use Rattle.properties.proofs.lookups.judge_scalars.Given as goal
 
 abbrev pub invariant-loop-i : goal.invariant-loop-i
 invariant-loop-i l = Rest (λ k. judge_scalar (cell l.scalars k) k) (length l.scalars) l.i
-
-abbrev pub decreases-loop-i : goal.decreases-loop-i
-decreases-loop-i l = length l.scalars - l.i

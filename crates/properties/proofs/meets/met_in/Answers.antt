@@ -9,10 +9,7 @@ pub loop-k-init : goal.loop-k-init
 loop-k-init c = unfold some in (search rules, refl)
 
 pub returns-then-shares : goal.returns-then-shares
-returns-then-shares c = held_hit _ _ _ _ _ _ _ c.shares.ensures c.loop-k-test.true c.if-shares.true
-
-pub loop-k-smaller : goal.loop-k-smaller
-loop-k-smaller c = search rules
+returns-then-shares c = held_hit _ _ _ _ _ _ _ c.shares.ensures (omega arith) c.if-shares.true
 
 pub loop-k-preserved : goal.loop-k-preserved
 loop-k-preserved c = (search rules, held_more c.args.firsts.now c.args.lasts.now c.args.n _ _ c.loop-k.k _ c.shares.ensures c.loop-k.invariant.1 c.if-shares.false)

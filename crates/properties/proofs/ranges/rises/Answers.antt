@@ -8,14 +8,11 @@ use Rattle.properties.proofs.ranges.rises.Goals as goal
 pub loop-i-init : goal.loop-i-init
 loop-i-init c = unfold every in (search rules, (refl, refl))
 
-pub returns-then-cell-before : goal.returns-then-cell-before
-returns-then-cell-before c = rise_fails _ _ _ c.loop-i.invariant.1.1 _ c.loop-i-test.true c.if-cell-before.true
-
-pub loop-i-smaller : goal.loop-i-smaller
-loop-i-smaller c = search rules
+pub returns-then-column-i : goal.returns-then-column-i
+returns-then-column-i c = rise_fails _ _ _ c.loop-i.invariant.1.1 _ (omega arith) c.if-column-i.true
 
 pub loop-i-preserved : goal.loop-i-preserved
-loop-i-preserved c = (search rules, (rise_more _ _ _ c.loop-i.invariant.1.1 c.loop-i.invariant.1.0 c.if-cell-before.false, before_next c.args.column.now c.loop-i.i))
+loop-i-preserved c = (search rules, (rise_more _ _ _ c.loop-i.invariant.1.1 c.loop-i.invariant.1.0 c.if-column-i.false, before_next c.args.column.now c.loop-i.i))
 
 pub returns : goal.returns
 returns c = rise_over _ _ _ c.loop-i.invariant.1.0 (omega arith)

@@ -1,19 +1,8 @@
-use Rattle.records.proofs.Any.{seeks}
-use mathlib.Core.Path.{refl}
-use borrow.Author.Rules.{rules}
+use Rattle.std.specs.Prelude.{eqb, not, get_or}
+use Rattle.std.proofs.Common.{rules, tests}
+use Rattle.std.proofs.lemmas.Iterator.{YieldsList-from_slice}
+use Rattle.std.proofs.lemmas.Iterator.Search.{any_from_yields_List}
 use Rattle.records.proofs.cells.uneven.Goals as goal
 
-pub loop-i-init : goal.loop-i-init
-loop-i-init c = refl
-
-pub returns-then-lengths-i : goal.returns-then-lengths-i
-returns-then-lengths-i c = search seeks
-
-pub loop-i-smaller : goal.loop-i-smaller
-loop-i-smaller c = search rules
-
-pub loop-i-preserved : goal.loop-i-preserved
-loop-i-preserved c = search seeks
-
 pub returns : goal.returns
-returns c = search seeks
+returns c = any_from_yields_List (λ n. not (eqb n (get_or c.args.lengths.now 0 0))) _ _ _ c.any.ensures.ran (YieldsList-from_slice c.args.lengths.now cc) (λ x b q k. search (rules, tests))

@@ -1,13 +1,9 @@
-use Prim.Native.Nat.{ℕ, ◌-◌, ◌<◌}
+use Prim.Native.Nat.{ℕ, ◌<◌}
 use mathlib.Core.Path.{◌≡◌}
 use mathlib.Core.Bool.{true}
-use lib.ListN.{length}
 use Rattle.records.specs.Text.{cell}
 use Rattle.tables.specs.Symbols.{regular_use}
 use Rattle.segment.proofs.regular.all_parts.Given as goal
 
 abbrev pub invariant-loop-i : goal.invariant-loop-i
 invariant-loop-i l = l.odd ≡ 0 → (k : ℕ) → k < l.i → regular_use l.khmer (cell l.scalars k) (cell l.kinds k) 0 ≡ true
-
-abbrev pub decreases-loop-i : goal.decreases-loop-i
-decreases-loop-i l = length l.scalars - l.i

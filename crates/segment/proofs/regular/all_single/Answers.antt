@@ -2,17 +2,14 @@ use Rattle.records.proofs.Passing.{joined_more}
 use Rattle.segment.proofs.Regulars.{each_all}
 use borrow.Author.Tests.{eqb-true}
 use native.Mathlib.Omega.{arith}
-use borrow.Author.Rules.{rules}
+use mathlib.Core.Path.{refl}
 use Rattle.segment.proofs.regular.all_single.Goals as goal
 
 pub loop-i-init : goal.loop-i-init
 loop-i-init c = λ e k h. absurd (omega arith)
 
-pub loop-i-smaller : goal.loop-i-smaller
-loop-i-smaller c = search rules
-
 pub loop-i-preserved : goal.loop-i-preserved
-loop-i-preserved c = joined_more _ _ _ _ _ c.loop-i.invariant c.odd_split.ensures c.joined-odd.ensures
+loop-i-preserved c = joined_more _ _ _ _ _ c.loop-i.invariant c.odd_split-odd.ensures refl
 
 pub returns : goal.returns
 returns c = λ e. each_all _ _ _ _ c.loop-i.invariant c.loop-i-test.false (eqb-true _ _ e)

@@ -1,5 +1,5 @@
 use Rattle.segment.proofs.Regulars.{parted_use}
-use Rattle.records.specs.Text.{text_in}
+use Rattle.records.specs.Text.{lent}
 use Rattle.records.proofs.Passing.{not_so}
 use mathlib.Core.Bool.{true, false}
 use Rattle.segment.proofs.regular.is_parted.Goals as goal
@@ -10,13 +10,8 @@ returns-then-direct c = λ e. not_so e
 pub returns-in-Simple : goal.returns-in-Simple
 returns-in-Simple c = λ e. not_so e
 
-pub returns-in-Myanmar : goal.returns-in-Myanmar
-returns-in-Myanmar c = λ e. not_so e
-
 pub returns-in-Complex : goal.returns-in-Complex
-unfolding text_in
-returns-in-Complex c = λ e. parted_use _ _ (text_in c.args.wides.now c.args.bytes.now c.args.firsts.now) c.requires false c.in-Complex.is (c.use_parted.ensures e)
+returns-in-Complex c = λ e. parted_use _ _ (lent c.args.columns.now) c.requires false c.in-Complex.is (c.use_parted.ensures e)
 
 pub returns-in-Khmer : goal.returns-in-Khmer
-unfolding text_in
-returns-in-Khmer c = λ e. parted_use _ _ (text_in c.args.wides.now c.args.bytes.now c.args.firsts.now) c.requires true c.in-Khmer.is (c.use_parted-in-Khmer.ensures e)
+returns-in-Khmer c = λ e. parted_use _ _ (lent c.args.columns.now) c.requires true c.in-Khmer.is (c.use_parted-in-Khmer.ensures e)

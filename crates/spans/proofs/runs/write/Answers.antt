@@ -5,14 +5,10 @@ use lib.ListN.{length}
 use Rattle.segment.proofs.Written.{cells_more, cells_all}
 use Rattle.spans.specs.Spans.{no_span}
 use Rattle.spans.specs.Runs.{offset_in, length_in, noffset_in, nlength_in}
-use borrow.Author.Rules.{rules}
 use Rattle.spans.proofs.runs.write.Goals as goal
 
 pub loop-j-init : goal.loop-j-init
 loop-j-init c = (omega arith, ((refl, refl), ((refl, refl), ((refl, refl), (refl, refl)))))
-
-pub loop-j-smaller : goal.loop-j-smaller
-loop-j-smaller c = search rules
 
 pub loop-j-preserved : goal.loop-j-preserved
 loop-j-preserved c = let h : c.loop-j.j < length c.args.spans.chars = omega (arith, c.loop-j-test.true, c.requires.cells) in (omega arith, (cells_more no_span offset_in _ _ _ c.args.spans.chars _ _ h refl c.loop-j.invariant.1.0, (cells_more no_span length_in _ _ _ c.args.spans.chars _ _ h refl c.loop-j.invariant.1.1.0, (cells_more no_span noffset_in _ _ _ c.args.spans.chars _ _ h refl c.loop-j.invariant.1.1.1.0, cells_more no_span nlength_in _ _ _ c.args.spans.chars _ _ h refl c.loop-j.invariant.1.1.1.1))))

@@ -1,21 +1,18 @@
-use Rattle.uax29.proofs.Links.{begun_back}
-use borrow.Author.Rules.{rules}
+use native.Mathlib.Omega.{arith}
+use Rattle.uax29.proofs.Links.{begun_back, begun_parted, begun_on}
 use Rattle.uax29.proofs.conjoined.is_begun.Goals as goal
 
-pub loop-i-init : goal.loop-i-init
-loop-i-init c = search rules
-
-pub returns-then-conjunct-eq-Consonant : goal.returns-then-conjunct-eq-Consonant
-returns-then-conjunct-eq-Consonant c = search begun_back depth 8
-
-pub loop-i-smaller : goal.loop-i-smaller
-loop-i-smaller c = search rules
+pub returns-in-1 : goal.returns-in-1
+returns-in-1 c = search begun_back depth 8
 
 pub loop-i-preserved : goal.loop-i-preserved
-loop-i-preserved c = search begun_back depth 8
+loop-i-preserved c = begun_on _ _ _ c.loop-i-test.true _ c.cell.ensures c.loop-i.invariant (omega arith) (omega arith)
 
-pub returns-else-in2 : goal.returns-else-in2
-returns-else-in2 c = search begun_back depth 8
+pub returns-in_default : goal.returns-in_default
+returns-in_default c = begun_parted _ _ _ c.loop-i-test.true _ c.cell.ensures c.loop-i.invariant (λ e. omega arith) (λ e. omega arith) (λ e. omega arith)
+
+pub returns-in_default-2 : goal.returns-in_default-2
+returns-in_default-2 c = begun_parted _ _ _ c.loop-i-test.true _ c.cell.ensures c.loop-i.invariant (λ e. omega arith) (λ e. omega arith) (λ e. omega arith)
 
 pub returns : goal.returns
 returns c = search begun_back depth 8

@@ -4,6 +4,3 @@ use Rattle.uax29.proofs.conjoined.is_begun.Given as goal
 
 abbrev pub invariant-loop-i : goal.invariant-loop-i
 invariant-loop-i l = begun_at l.conjuncts l.at ≡ begun_at l.conjuncts l.i
-
-abbrev pub decreases-loop-i : goal.decreases-loop-i
-decreases-loop-i l = l.i

@@ -1,19 +1,12 @@
-use mathlib.Core.Path.{◌≡◌, refl}
+use mathlib.Core.Path.{refl}
 use native.Mathlib.Omega.{arith}
-use lib.ListN.{length}
+use borrow.Author.Rules.{rules}
 use Rattle.basics.specs.Columns.{cells}
 use Rattle.uax29.proofs.EditionLaws.{turn_in}
-use borrow.Author.Rules.{rules}
 use Rattle.uax29.proofs.editions.decide_starts_in.Goals as goal
 
 pub loop-i-init : goal.loop-i-init
-loop-i-init c = unfold cells in (search rules, (refl, refl))
-
-pub loop-i-smaller : goal.loop-i-smaller
-loop-i-smaller c = search rules
+loop-i-init c = unfold cells in (refl, refl)
 
 pub loop-i-preserved : goal.loop-i-preserved
-loop-i-preserved c = (search rules, (search rules, turn_in _ _ _ _ _ _ _ _ c.start_in.ensures (omega arith) c.loop-i.invariant.1.1))
-
-pub returns : goal.returns
-returns c = let e : c.loop-i.i ≡ length c.args.breaks.now = omega arith in rw (← e) c.loop-i.invariant.1.1
+loop-i-preserved c = (search rules, turn_in _ _ _ _ _ _ _ _ c.start_in.ensures (omega arith) c.loop-i.invariant.1)

@@ -1,4 +1,3 @@
-use Prim.Native.Nat.{◌≤◌, ◌-◌}
 use mathlib.Core.Path.{◌≡◌}
 use lib.ListN.{length}
 use Rattle.basics.proofs.Columns.{Written}
@@ -6,7 +5,4 @@ use Rattle.uax29.specs.EditionRuns.{start_in}
 use Rattle.uax29.proofs.editions.decide_starts_in.Given as goal
 
 abbrev pub invariant-loop-i : goal.invariant-loop-i
-invariant-loop-i l = (l.i ≤ length l.breaks) × ((length l.out ≡ length l.initial.out) × Written (start_in l.edition l.breaks l.marks l.conjuncts) l.initial.out l.i l.out)
-
-abbrev pub decreases-loop-i : goal.decreases-loop-i
-decreases-loop-i l = length l.breaks - l.i
+invariant-loop-i l = (length l.out ≡ length l.initial.out) × Written (start_in l.edition l.breaks l.marks l.conjuncts) l.initial.out l.i l.out

@@ -1,4 +1,3 @@
-use Prim.Native.Nat.{◌≤◌, ◌-◌}
 use mathlib.Core.Path.{◌≡◌}
 use lib.ListN.{length}
 use Rattle.basics.proofs.Columns.{Written}
@@ -6,7 +5,4 @@ use Rattle.uax29.specs.Graphemes.{start_at}
 use Rattle.uax29.proofs.graphemes.decide_starts.Given as goal
 
 abbrev pub invariant-loop-i : goal.invariant-loop-i
-invariant-loop-i l = (l.i ≤ length l.breaks) × ((length l.out ≡ length l.initial.out) × Written (start_at l.breaks l.marks) l.initial.out l.i l.out)
-
-abbrev pub decreases-loop-i : goal.decreases-loop-i
-decreases-loop-i l = length l.breaks - l.i
+invariant-loop-i l = (length l.out ≡ length l.initial.out) × Written (start_at l.breaks l.marks) l.initial.out l.i l.out

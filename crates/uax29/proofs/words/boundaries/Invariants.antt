@@ -1,4 +1,3 @@
-use Prim.Native.Nat.{◌≤◌, ◌-◌}
 use mathlib.Core.Path.{◌≡◌}
 use lib.ListN.{length}
 use Rattle.basics.proofs.Columns.{Written}
@@ -7,7 +6,4 @@ use Rattle.uax29.specs.WordsSeen.{seen_at}
 use Rattle.uax29.proofs.words.boundaries.Given as goal
 
 abbrev pub invariant-loop-i : goal.invariant-loop-i
-invariant-loop-i l = (l.i ≤ l.n) × ((length l.out ≡ length l.initial.out) × ((l.seen ≡ seen_at l.words l.i) × Written (boundary_at l.words l.pictographs) l.initial.out l.i l.out))
-
-abbrev pub decreases-loop-i : goal.decreases-loop-i
-decreases-loop-i l = l.n - l.i
+invariant-loop-i l = (length l.out ≡ length l.initial.out) × ((l.seen ≡ seen_at l.words l.i) × Written (boundary_at l.words l.pictographs) l.initial.out l.i l.out)

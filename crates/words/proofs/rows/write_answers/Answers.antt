@@ -1,9 +1,7 @@
-use mathlib.Core.Path.{◌≡◌, refl}
-use lib.ListN.{length}
+use mathlib.Core.Path.{refl}
 use native.Mathlib.Omega.{arith}
 use Rattle.basics.specs.Columns.{cells}
 use Rattle.words.specs.Run.{state_at}
-use Rattle.words.specs.Table.{word_groups, word_symbols, word_nexts, word_answers}
 use Rattle.records.proofs.Marks.{even, fine_class, fine_mark}
 use Rattle.words.proofs.Accepted.{fine_next}
 use Rattle.words.proofs.Standing.{start_stands, turn_stands, turn_written, turn_symbol, row_small, group_small}
@@ -11,28 +9,22 @@ use borrow.Author.Rules.{rules}
 use Rattle.words.proofs.rows.write_answers.Goals as goal
 
 pub loop-i-init : goal.loop-i-init
-loop-i-init c = unfold state_at cells in (search rules, (refl, (start_stands, refl)))
+loop-i-init c = unfold state_at cells in (refl, (start_stands, refl))
 
 pub group_at-group-requires : goal.group_at-group-requires
-group_at-group-requires c = (unfold word_groups in refl, fine_class _ _ _ c.requires.0 _)
+group_at-group-requires c = fine_class _ _ _ c.requires.0 _
 
 pub bounds-pictographs-i : goal.bounds-pictographs-i
 bounds-pictographs-i c = omega (arith, even _ _ _ c.requires.0)
 
 pub symbol_of-symbol-requires : goal.symbol_of-symbol-requires
-symbol_of-symbol-requires c = (unfold word_symbols in refl, (fine_class _ _ _ c.requires.0 _ c.loop-i-test.true, (fine_mark _ _ _ c.requires.0 _ c.loop-i-test.true, group_small _ _ (fine_next _ _ c.requires.0 _) c.group_at-group.ensures)))
+symbol_of-symbol-requires c = (fine_class _ _ _ c.requires.0 _ c.loop-i-test.true, (fine_mark _ _ _ c.requires.0 _ c.loop-i-test.true, group_small _ _ (fine_next _ _ c.requires.0 _) c.group_at-group.ensures))
 
 pub answer_of-requires : goal.answer_of-requires
-answer_of-requires c = (unfold word_answers in refl, (turn_symbol _ _ c.requires.0 _ c.loop-i-test.true _ c.loop-i.invariant.1.1.0 _ _ _ _ refl refl c.group_at-group.ensures c.symbol_of-symbol.ensures, row_small c.loop-i.invariant.1.1.0))
+answer_of-requires c = (turn_symbol _ _ c.requires.0 _ c.loop-i-test.true _ c.loop-i.invariant.1.0 _ _ _ _ refl refl c.group_at-group.ensures c.symbol_of-symbol.ensures, row_small c.loop-i.invariant.1.0)
 
 pub row_after-row-requires : goal.row_after-row-requires
-row_after-row-requires c = (unfold word_nexts in refl, (turn_symbol _ _ c.requires.0 _ c.loop-i-test.true _ c.loop-i.invariant.1.1.0 _ _ _ _ refl refl c.group_at-group.ensures c.symbol_of-symbol.ensures, row_small c.loop-i.invariant.1.1.0))
-
-pub loop-i-smaller : goal.loop-i-smaller
-loop-i-smaller c = search rules
+row_after-row-requires c = (turn_symbol _ _ c.requires.0 _ c.loop-i-test.true _ c.loop-i.invariant.1.0 _ _ _ _ refl refl c.group_at-group.ensures c.symbol_of-symbol.ensures, row_small c.loop-i.invariant.1.0)
 
 pub loop-i-preserved : goal.loop-i-preserved
-loop-i-preserved c = (search rules, (search rules, (turn_stands _ _ c.requires.0 _ c.loop-i-test.true _ c.loop-i.invariant.1.1.0 _ _ _ _ refl refl c.group_at-group.ensures c.symbol_of-symbol.ensures _ c.row_after-row.ensures, turn_written _ _ c.requires.0 _ c.loop-i-test.true _ c.loop-i.invariant.1.1.0 _ _ _ _ refl refl c.group_at-group.ensures c.symbol_of-symbol.ensures _ _ _ c.answer_of.ensures (omega arith) c.loop-i.invariant.1.1.1)))
-
-pub returns : goal.returns
-returns c = let e : c.loop-i.i ≡ length c.args.words.now = omega arith in rw (← e) c.loop-i.invariant.1.1.1
+loop-i-preserved c = (search rules, (turn_stands _ _ c.requires.0 _ c.loop-i-test.true _ c.loop-i.invariant.1.0 _ _ _ _ refl refl c.group_at-group.ensures c.symbol_of-symbol.ensures _ c.row_after-row.ensures, turn_written _ _ c.requires.0 _ c.loop-i-test.true _ c.loop-i.invariant.1.0 _ _ _ _ refl refl c.group_at-group.ensures c.symbol_of-symbol.ensures _ _ _ c.answer_of.ensures (omega arith) c.loop-i.invariant.1.1))

@@ -1,4 +1,3 @@
-use Prim.Native.Nat.{◌≤◌, ◌-◌}
 use mathlib.Core.Path.{◌≡◌}
 use lib.ListN.{length}
 use Rattle.basics.proofs.Columns.{Written}
@@ -7,7 +6,4 @@ use Rattle.words.proofs.Standing.{Stands}
 use Rattle.words.proofs.rows.write_answers.Given as goal
 
 abbrev pub invariant-loop-i : goal.invariant-loop-i
-invariant-loop-i l = (l.i ≤ length l.words) × ((length l.out ≡ length l.initial.out) × (Stands (state_at l.words l.pictographs l.i) l.row × Written (answer_at l.words l.pictographs) l.initial.out l.i l.out))
-
-abbrev pub decreases-loop-i : goal.decreases-loop-i
-decreases-loop-i l = length l.words - l.i
+invariant-loop-i l = (length l.out ≡ length l.initial.out) × (Stands (state_at l.words l.pictographs l.i) l.row × Written (answer_at l.words l.pictographs) l.initial.out l.i l.out)

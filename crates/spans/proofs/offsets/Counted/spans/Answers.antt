@@ -31,9 +31,6 @@ overflow_add-place c = omega (arith, walk_near c.args.scalars.now c.args.text.no
 pub overflow_add-place-in-loop-j : goal.overflow_add-place-in-loop-j
 overflow_add-place-in-loop-j c = omega (arith, walk_near c.args.scalars.now c.args.text.now c.args.at c.args.cluster.len c.args.cluster.chars c.requires.cells _ _ _ _ _ c.loop-j.invariant c.loop-j-test.true c.requires.most c.requires.near)
 
-pub loop-j-smaller : goal.loop-j-smaller
-loop-j-smaller c = search rules
-
 pub loop-j-preserved : goal.loop-j-preserved
 loop-j-preserved c = walk_turns c.args.scalars.now c.args.text.now c.args.at c.args.cluster.len c.args.cluster.chars c.requires.cells _ _ _ _ _ c.loop-j.invariant c.loop-j-test.true (get_or c.args.cluster.chars c.loop-j.j nothing) _ _ _ refl (search rules) c.span.ensures (counts_to _ _ _ c.to-along-in-loop-j.ensures) (last_end_at c.args.scalars.now c.args.text.now c.loop-j.place (get_or c.args.cluster.chars c.loop-j.j nothing) _ _ _ c.last_record.ensures c.to-along-in-loop-j.ensures c.length_of.ensures)
 

@@ -1,9 +1,0 @@
-use Rattle.basics.proofs.Choices.{chains}
-use borrow.Author.Tests.{lt-ltb, le-ltb}
-use Rattle.exports.proofs.Given.is_bad.Goals as goal
-
-pub returns-then-self-gt1 : goal.returns-then-self-gt1
-returns-then-self-gt1 c = search (chains, lt-ltb, le-ltb)
-
-pub returns : goal.returns
-returns c = search (chains, lt-ltb, le-ltb)

@@ -1,7 +1,0 @@
-use Rattle.label.proofs.print.hex.Given as goal
-
-abbrev pub invariant-loop-unit : goal.invariant-loop-unit
-invariant-loop-unit l = Unit {0}
-
-abbrev pub decreases-loop-unit : goal.decreases-loop-unit
-decreases-loop-unit l = l.unit

@@ -1,8 +1,0 @@
-use Rattle.parse.proofs.Rules.{tests}
-use Rattle.parse.proofs.Parse.kind_in4.Goals as goal
-
-pub returns-then-kind_is : goal.returns-then-kind_is
-returns-then-kind_is c = search tests
-
-pub returns : goal.returns
-returns c = search tests

@@ -1,6 +1,0 @@
-use lib.ListN.{get_or-eq_default}
-use mathlib.Core.Path.{sym}
-use Rattle.parse.proofs.state.token_at.Goals as goal
-
-pub returns-else-i-text : goal.returns-else-i-text
-returns-else-i-text c = sym (get_or-eq_default c.args.text.now 0 c.if-i-text.false)

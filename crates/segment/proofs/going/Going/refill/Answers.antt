@@ -1,4 +1,0 @@
-use Rattle.segment.proofs.going.Going.refill.Goals as goal
-
-pub returns : goal.returns
-returns c = simp c.back.ensures

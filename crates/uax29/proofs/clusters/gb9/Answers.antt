@@ -1,6 +1,0 @@
-use Rattle.uax29.proofs.ClustersSides.{sides}
-use Rattle.uax29.specs.Clusters.{applies, anything, GB9}
-use Rattle.uax29.proofs.clusters.gb9.Goals as goal
-
-pub returns : goal.returns
-returns c = unfold applies anything GB9 in search sides depth 12

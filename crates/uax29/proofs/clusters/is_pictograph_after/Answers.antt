@@ -1,8 +1,0 @@
-use Rattle.uax29.proofs.ClustersSides.{cells}
-use Rattle.uax29.proofs.clusters.is_pictograph_after.Goals as goal
-
-pub returns-then-at-breaks : goal.returns-then-at-breaks
-returns-then-at-breaks c = search cells
-
-pub returns : goal.returns
-returns c = search cells

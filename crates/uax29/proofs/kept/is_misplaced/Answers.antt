@@ -1,4 +1,0 @@
-use Rattle.uax29.proofs.kept.is_misplaced.Goals as goal
-
-pub returns-then-flag : goal.returns-then-flag
-returns-then-flag c = rw c.if-flag.true

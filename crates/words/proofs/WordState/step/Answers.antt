@@ -1,8 +1,0 @@
-use Rattle.words.proofs.Chain.{steps}
-use Rattle.words.proofs.WordState.step.Goals as goal
-
-pub returns-in_default : goal.returns-in_default
-returns-in_default c = search steps
-
-pub returns : goal.returns
-returns c = search steps
