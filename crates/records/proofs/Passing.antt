@@ -19,7 +19,7 @@ use Rattle.records.specs.declared.sweep.Six.{Six}
 use Rattle.records.specs.declared.Parser.TheVariants.{Simple, Myanmar, Complex, Khmer}
 use Rattle.records.specs.Verdict.{Verdict}
 use Rattle.records.specs.Refusals.{bad_scalar, barred, judge_signs}
-use Rattle.records.specs.Sweep.{CleanScalar, CleanScalars, EndsBy, Inside, six_at, Below, Passes, each_verdict}
+use Rattle.records.specs.Sweep.{CleanScalar, CleanScalars, Spared, EndsBy, Inside, six_at, Below, Passes, PassesFor, each_verdict}
 use Rattle.records.proofs.Accepted.{parts_pass, rows_pass}
 
 pub not_so : {A : Type 0} → false ≡ true → A
@@ -76,17 +76,31 @@ spared Myanmar x class e = refl
 spared Complex x class e = rw e
 spared Khmer x class e = rw e
 
-pub columns_pass : (t : Text) → Below t → CleanScalars t.records.scalars → CleanScalars t.parts.pscalars → EndsBy t.records.firsts t.records.counts (length t.parts.pscalars) → Passes t
-columns_pass t below s p e =
+-- a scalar that is clean is spared by every parser, and so is what stands past the end
+module _ (parser : Parser) (xs classes : List ℕ) where
+  abbrev pub SparedAt : ℕ → Type 0
+  SparedAt k = (bad_scalar (cell xs k) ≡ false) × (barred parser (cell xs k) (cell classes k) ≡ false)
+
+  abbrev pub SparedSo : ℕ → Type 0
+  SparedSo i = (k : ℕ) → k < i → SparedAt k
+
+  clean_spared : (k : ℕ) → CleanScalar (cell xs k) → SparedAt k
+  clean_spared k c = (c.0, spared parser _ _ c.1)
+
+  pub spared_all : (i : ℕ) → SparedSo i → length xs ≤ i → Spared parser xs classes
+  spared_all i f l = each_all SparedAt i f (λ k d. let z : cell xs k ≡ 0 = past xs k (omega arith) in clean_spared k (subst CleanScalar (sym z) clean_zero))
+
+pub columns_pass_for : (parser : Parser) (t : Text) → Below t → Spared parser t.records.scalars t.records.uses → Spared parser t.parts.pscalars t.parts.puses → EndsBy t.records.firsts t.records.counts (length t.parts.pscalars) → PassesFor parser t
+columns_pass_for parser t below s p e =
     record {
-      parts = λ parser. parts_pass parser _ (λ i h. record {
+      parts = parts_pass parser _ (λ i h. record {
         scalar = (p i).0;
         breaks = (below.parts i).0;
         uses = (below.parts i).1;
         category = (below.parts i).2;
-        free = spared parser _ _ (p i).1;
+        free = (p i).1;
       });
-      rows = λ parser. rows_pass parser _ _ (λ i h. record {
+      rows = rows_pass parser _ _ (λ i h. record {
         scalar = (s i).0;
         breaks = (below.classes i).0;
         uses = (below.classes i).1;
@@ -101,10 +115,24 @@ columns_pass t below s p e =
         decompose = (below.marks i).5;
         count = let z : cell t.records.counts i < 4 = (below.classes i).5 in omega arith;
         run = e i;
-        free = spared parser _ _ (s i).1;
+        free = (s i).1;
       });
     }
+
+-- clean scalars are spared by every parser
+pub columns_pass : (t : Text) → Below t → CleanScalars t.records.scalars → CleanScalars t.parts.pscalars → EndsBy t.records.firsts t.records.counts (length t.parts.pscalars) → Passes t
+columns_pass t below s p e =
+    record {
+      parts = λ parser. (each parser).parts;
+      rows = λ parser. (each parser).rows;
+    }
+  where
+    each : (parser : Parser) → PassesFor parser t
+    each parser = columns_pass_for parser t below (λ k. clean_spared parser _ _ k (s k)) (λ k. clean_spared parser _ _ k (p k)) e
 
 -- where both pass, what is left of the verdict are the signs
 pub both_pass : (parser : Parser) (t : Text) (r : Verdict) → Passes t → r ≡ judge_signs parser t → r ≡ each_verdict parser t
 both_pass parser t r p e = rw (p.parts parser, p.rows parser) e
+
+pub both_pass_for : (parser : Parser) (t : Text) (r : Verdict) → PassesFor parser t → r ≡ judge_signs parser t → r ≡ each_verdict parser t
+both_pass_for parser t r p e = rw (p.parts, p.rows) e

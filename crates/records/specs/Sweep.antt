@@ -10,13 +10,17 @@ use Rattle.records.specs.Text.{Text, cell}
 use Rattle.records.specs.declared.Parser.{Parser}
 use Rattle.records.specs.declared.sweep.Six.{Six}
 use Rattle.records.specs.Verdict.{Verdict}
-use Rattle.records.specs.Refusals.{◌⊳◌, bad_scalar, judge_parts, judge_records, judge_signs}
+use Rattle.records.specs.Refusals.{◌⊳◌, bad_scalar, barred, judge_parts, judge_records, judge_signs}
 
 abbrev pub CleanScalar : ℕ → Type 0
 CleanScalar x = (bad_scalar x ≡ false) × (eqb x CGJ ≡ false)
 
 abbrev pub CleanScalars : List ℕ → Type 0
 CleanScalars xs = (k : ℕ) → CleanScalar (cell xs k)
+
+-- no scalar is refused, or barred with its class
+abbrev pub Spared : Parser → List ℕ → List ℕ → Type 0
+Spared parser xs classes = (k : ℕ) → (bad_scalar (cell xs k) ≡ false) × (barred parser (cell xs k) (cell classes k) ≡ false)
 
 abbrev pub EndsBy : List ℕ → List ℕ → ℕ → Type 0
 EndsBy firsts counts parts = (k : ℕ) → cell firsts k + cell counts k ≤ parts
@@ -55,6 +59,11 @@ pub record Below (t : Text) : Type 0 where
 pub record Passes (t : Text) : Type 0 where
   pub parts : (parser : Parser) → judge_parts parser t.parts ≡ Ok tt
   pub rows : (parser : Parser) → judge_records parser t.records (length t.parts.pscalars) ≡ Ok tt
+
+-- the same for one parser
+pub record PassesFor (parser : Parser) (t : Text) : Type 0 where
+  pub parts : judge_parts parser t.parts ≡ Ok tt
+  pub rows : judge_records parser t.records (length t.parts.pscalars) ≡ Ok tt
 
 -- the verdict's steps after the lengths
 abbrev pub each_verdict : Parser → Text → Verdict

@@ -17,7 +17,7 @@ use classes::word_break;
 use judge::judge_lengths;
 pub use judge::{bad_scalar, is_bad_marked, is_khmer, is_outside, is_sign, judge_room, refused};
 use sets::{judge_all_marked, judge_each, judge_shape, judge_signs};
-use sweep::{is_clean, passes};
+use sweep::{is_clean, passes, passes_for};
 pub use threes::{is_bad_three, judge_codes, judge_columns};
 
 // What a refusal's index counts.
@@ -129,12 +129,12 @@ pub struct PartRow {
 pub const MOST: usize = 4096;
 
 // The verdict on a whole text.
-#[tactic(auto, using(crate::proofs::Passing::both_pass), unfolding(crate::specs::Refusals::verdict))]
+#[tactic(auto, using(crate::proofs::Passing::both_pass, crate::proofs::Passing::both_pass_for), unfolding(crate::specs::Refusals::verdict))]
 pub fn check(parser: Parser, columns: &Columns) -> Result<(), Refusal>
     ensures { result ≡ verdict parser (lent columns.now) }
 {
     judge_shape(columns)?;
-    if passes(columns) {
+    if passes(columns) || passes_for(parser, columns) {
         return judge_signs(parser, columns);
     }
     judge_each(parser, columns)

@@ -2,10 +2,11 @@
 ghost use Rattle.std.specs.Prelude.{◌≡◌, true, false, ◌+◌, ◌<◌, ◌≤◌, leb, Ok};
 ghost use Rattle.records.specs.Text.{lent};
 ghost use Rattle.records.specs.Refusals.{marked_verdict};
-ghost use Rattle.records.specs.Sweep.{CleanScalar, CleanScalars, zeros, Inside, SixBelow, Below, EndsBy, Passes};
+ghost use Rattle.records.specs.Sweep.{CleanScalar, CleanScalars, Spared, zeros, Inside, SixBelow, Below, EndsBy, Passes, PassesFor};
 
-use crate::judge::bad_scalar;
-use crate::{Columns, MOST};
+use crate::cells::cell;
+use crate::judge::{bad_scalar, is_barred};
+use crate::{Columns, MOST, Parser};
 use classes::{category, cluster_break, myanmar_class, scalar, use_class, word_break};
 
 // Six codes, or what six codes stay below.
@@ -49,9 +50,6 @@ const PARTS: Six = Six {
     f: category::LEN,
 };
 
-// A shorter text is judged record by record: there the loops over the columns cost more to begin and to end than they save.
-const SHORT: usize = 4;
-
 // Whether no run of parts ends past this.
 fn ends_by(firsts: &[u16], counts: &[u8], parts: usize) -> bool
     ensures { result ≡ true → EndsBy firsts.now counts.now parts }
@@ -88,6 +86,19 @@ fn clean_scalars(column: &[u32]) -> bool
         odd |= oddness(x);
     }
     odd == 0
+}
+
+// Whether no scalar is refused, or barred with its class.
+fn are_spared(parser: Parser, scalars: &[u32], uses: &[u8]) -> bool
+    ensures { result ≡ true → Spared parser scalars.now uses.now }
+{
+    for i in 0..scalars.len() {
+        let x = scalars[i];
+        if bad_scalar(x) || is_barred(parser, x, cell(uses, i, 0)) {
+            return false;
+        }
+    }
+    true
 }
 
 // 0 for a code below its limit, else 1.
@@ -173,10 +184,27 @@ fn below(c: &Columns) -> bool
 pub fn passes(columns: &Columns) -> bool
     ensures { result ≡ true → Passes (lent columns.now) }
 {
-    if columns.scalars.len() < SHORT || !below(columns) {
+    if !below(columns) {
         return false;
     }
     if !clean_scalars(columns.scalars) || !clean_scalars(columns.pscalars) {
+        return false;
+    }
+    ends_by(columns.firsts, columns.counts, columns.pscalars.len())
+}
+
+// The same for one parser, of a text with U+034F, which most classes do not bar: to judge it record by record takes several times as
+// long. In a frame of its own: the check of most texts has none of it on its stack.
+#[inline(never)]
+pub fn passes_for(parser: Parser, columns: &Columns) -> bool
+    ensures { result ≡ true → PassesFor parser (lent columns.now) }
+{
+    if !below(columns) {
+        return false;
+    }
+    if !are_spared(parser, columns.scalars, columns.uses)
+        || !are_spared(parser, columns.pscalars, columns.puses)
+    {
         return false;
     }
     ends_by(columns.firsts, columns.counts, columns.pscalars.len())
