@@ -96,6 +96,8 @@ impl LineState {
             && is_kept_together(class)
     }
 
+    // Part of the loop of `lay`, so that this and `after` read one cell of the table.
+    #[inline(always)]
     pub(crate) fn answer(self, table: &[u8], strength: Strength, class: u8) -> Boundary
         ensures { result ≡ line_answer strength table.now self class }
     {

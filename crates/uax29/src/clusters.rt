@@ -118,22 +118,28 @@ impl<'a> Place<'a> {
         self.before_is(PP)
     }
 
+    // Inlined, as are those below that say so: for a call the place would be written to memory, at each record.
+    #[inline(always)]
     fn gb11(&self) -> bool
         ensures { result ≡ applies GB11 (before self.now) (after self.now) }
     {
         self.is_joiner_before() && self.is_pictograph_after()
     }
 
+    // Inlined as gb11 is. What is at the place is asked first, here and in gb13: the look back is longer.
+    #[inline(always)]
     fn gb12(&self) -> bool
         ensures { result ≡ applies GB12 (before self.now) (after self.now) }
     {
-        self.is_half_flag_from_start() && self.after_is(RI)
+        self.after_is(RI) && self.is_half_flag_from_start()
     }
 
+    // Inlined as gb11 is.
+    #[inline(always)]
     fn gb13(&self) -> bool
         ensures { result ≡ applies GB13 (before self.now) (after self.now) }
     {
-        self.is_half_flag_after_other() && self.after_is(RI)
+        self.after_is(RI) && self.is_half_flag_after_other()
     }
 
     fn gb999(&self) -> bool
@@ -247,16 +253,18 @@ impl<'a> Place<'a> {
         place.is_pictograph_before()
     }
 
-    // The left side of GB12.
+    // The left side of GB12. Inlined as gb11 is.
     #[tactic(auto, using(crate::proofs::ClustersSides::flags))]
+    #[inline(always)]
     fn is_half_flag_from_start(&self) -> bool
         ensures { result ≡ next (is ClusterBreak.RI) (pairs (is ClusterBreak.RI) edge) (before self.now) }
     {
         self.before_is(RI) && self.back().beyond_flags().is_start()
     }
 
-    // The left side of GB13.
+    // The left side of GB13. Inlined as gb11 is.
     #[tactic(auto, using(crate::proofs::ClustersSides::flags))]
+    #[inline(always)]
     fn is_half_flag_after_other(&self) -> bool
         ensures { result ≡ next (is ClusterBreak.RI) (pairs (is ClusterBreak.RI) (one (is_not ClusterBreak.RI))) (before self.now) }
     {
@@ -267,7 +275,8 @@ impl<'a> Place<'a> {
         !place.is_start() && !place.before_is(RI)
     }
 
-    // The place before all pairs of RI that stand before a place: by twos, which no range counts.
+    // The place before all pairs of RI that stand before a place: by twos, which no range counts. Inlined as gb11 is.
+    #[inline(always)]
     fn beyond_flags(&self) -> Place<'a>
         ensures { before result ≡ beyond (is ClusterBreak.RI) (before self.now) }
     {

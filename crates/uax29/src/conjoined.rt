@@ -50,7 +50,12 @@ pub(crate) fn is_joined(linked: bool, conjunct: u8, a: u8, b: u8) -> bool
 fn class_before(breaks: &[u8], at: usize) -> u8
     ensures { result ≡ cell breaks.now (at - 1) }
 {
-    cell(breaks, at.saturating_sub(1), 0)
+    // a branch, not a minimum, so that the machine code of `take_starts` asks this of its first turn alone
+    if at == 0 {
+        cell(breaks, 0, 0)
+    } else {
+        cell(breaks, at - 1, 0)
+    }
 }
 
 // The same at a place, by looking back: from a consonant alone, so that a run of extenders and linkers is gone over once.
