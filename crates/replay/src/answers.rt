@@ -4,7 +4,7 @@ use crate::files::{Sizes, files};
 use crate::out::Out;
 use crate::refusals::refusal;
 use crate::texts::{Ask, text};
-use crate::{CELLS, COLUMN};
+use crate::zeros::{CELLS, cells, column};
 use cases::{Line, Machine, column8, span};
 use records::Refusal;
 use records::cells::first;
@@ -21,9 +21,9 @@ fn run_by(machine: Machine, classes: &[u8], marks: &[u8], out: &mut [u8]) -> Res
 // The cells, one blank between, or the refusal.
 fn marked_run(out: &mut Out, line: &[u8], machine: Machine, size: usize, records: usize) {
     let section = span(line, b';', 2);
-    let mut classes = [0; COLUMN];
-    let mut marks = [0; COLUMN];
-    let mut answers = [0; CELLS];
+    let mut classes = column(0);
+    let mut marks = column(0);
+    let mut answers = cells(0);
     let n = column8(section, 0, records, &mut classes);
     let m = column8(section, 1, records, &mut marks);
     let k = size.min(CELLS);

@@ -2,7 +2,7 @@
 use crate::answers::state;
 use crate::out::Out;
 use crate::refusals::refusal;
-use crate::{CELLS, COLUMN};
+use crate::zeros::{CELLS, cells, column};
 use cases::{Task, column8, lay_table, span};
 use lines::pair_table::pair_table;
 use lines::{Boundary, BoundaryState, BoundaryStep, LineState, LineStep, Strength};
@@ -49,10 +49,10 @@ fn boundaries(
     size: usize,
     records: usize,
 ) {
-    let mut lines = [0; COLUMN];
-    let mut words = [0; COLUMN];
-    let mut pictographs = [0; COLUMN];
-    let mut answers = [0; CELLS];
+    let mut lines = column(0);
+    let mut words = column(0);
+    let mut pictographs = column(0);
+    let mut answers = cells(0);
     let n = column8(section, 0, records, &mut lines);
     let m = column8(section, 1, records, &mut words);
     let p = column8(section, 2, records, &mut pictographs);

@@ -3,7 +3,7 @@ ghost use Rattle.std.specs.Prelude.{◌≤◌};
 
 use crate::out::Out;
 use crate::refusals::{line_refusal, refusal};
-use crate::{CELLS, COLUMN};
+use crate::zeros::{CELLS, COLUMN, RANGES, cells, ranges};
 use cases::{MOST_SCALARS, column32, letter, span};
 use properties::{File, lookup, read};
 use records::Refusal;
@@ -14,9 +14,6 @@ const SCALARS: usize = MOST_SCALARS + 1;
 
 // One byte more than a block may have, so that a longer one is seen.
 const BLOCK: usize = 65537;
-
-// As many cells as a line can give to a set of ranges.
-const RANGES: usize = 4096;
 
 // How much a line asks for: cells of the two sets, blocks to read, scalars to look up, cells to look them up into.
 #[derive(Clone, Copy)]
@@ -43,9 +40,9 @@ impl Ranges {
     fn new(file: File, cells: usize) -> Ranges {
         Ranges {
             file,
-            firsts: [0; RANGES],
-            lasts: [0; RANGES],
-            codes: [0; RANGES],
+            firsts: ranges(0),
+            lasts: ranges(0),
+            codes: ranges(0),
             cells,
             held: 0,
         }
@@ -126,8 +123,8 @@ fn look_up<const N: usize>(
     requires { N ≤ 262145 }
 {
     let mut scalars = [0; N];
-    let mut breaks = [0; CELLS];
-    let mut classes = [0; CELLS];
+    let mut breaks = cells(0);
+    let mut classes = cells(0);
     let n = column32(section, 0, sizes.scalars, &mut scalars);
     let k = sizes.cells.min(CELLS);
     let verdict = lookup(

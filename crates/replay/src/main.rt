@@ -8,16 +8,11 @@ mod files;
 mod out;
 mod refusals;
 mod texts;
+mod zeros;
 
 use console::each_chunk;
 use out::Out;
 use records::cells::first;
-
-// One cell more than a text may have, so that a longer one is seen.
-const COLUMN: usize = 4097;
-
-// As many as a line can ask for.
-const CELLS: usize = 65535;
 
 // A line that is longer is not of the layout.
 const MOST: usize = 1048576;

@@ -2,7 +2,8 @@
 use crate::clusters::call;
 use crate::out::Out;
 use crate::refusals::refusal;
-use crate::{CELLS, COLUMN};
+use crate::zeros;
+use crate::zeros::{CELLS, COLUMN, cells};
 use cases::{column8, column16, column32, span};
 use classes::Mode;
 use parse::Place;
@@ -66,9 +67,9 @@ fn written(out: &mut Out, scalars: &[u32], classes: &[u8], clusters: &[u16]) {
 // "CLUSTERS PUSHED|scalar.class.cluster …", or the refusal.
 fn full_run(out: &mut Out, ask: Ask, columns: &Columns) {
     let size = ask.number.min(CELLS);
-    let mut scalars = [0; CELLS];
-    let mut classes = [0; CELLS];
-    let mut clusters = [0; CELLS];
+    let mut scalars = cells(0);
+    let mut classes = cells(0);
+    let mut clusters = cells(0);
     let answer = run(
         ask.parser,
         ask.mode,
@@ -102,19 +103,19 @@ fn asked(out: &mut Out, ask: Ask, columns: &Columns) {
 // Field k of the first n items. One generic function, handed the reader of its width, copies each column once more: a replay of all
 // lines then takes 3% more instructions.
 fn read8(section: &[u8], k: usize, n: usize) -> [u8; COLUMN] {
-    let mut column = [0; COLUMN];
+    let mut column = zeros::column(0);
     column8(section, k, n, &mut column);
     column
 }
 
 fn read16(section: &[u8], k: usize, n: usize) -> [u16; COLUMN] {
-    let mut column = [0; COLUMN];
+    let mut column = zeros::column(0);
     column16(section, k, n, &mut column);
     column
 }
 
 fn read32(section: &[u8], k: usize, n: usize) -> [u32; COLUMN] {
-    let mut column = [0; COLUMN];
+    let mut column = zeros::column(0);
     column32(section, k, n, &mut column);
     column
 }
