@@ -1,4 +1,6 @@
 // The picture of a mode: rows of boxes, one box a character, with heavy borders where a cluster begins and ends.
+ghost use Rattle.std.specs.Prelude.{◌≡◌, min};
+
 use crate::cells::Cell;
 use crate::lookup::{Field, class_of};
 use crate::print::{blanks, count, hex, sign};
@@ -187,12 +189,19 @@ fn heading(parser: Parser, mode: Mode, cells: &[Cell]) {
     write(b"\n");
 }
 
+// How many boxes the next row has, of so many that are left.
+fn row_length(left: usize) -> usize
+    ensures { result ≡ min 7 left }
+{
+    ROW.min(left)
+}
+
 // No `chunks`: a row is closed by what the next begins with.
 pub(crate) fn draw(parser: Parser, mode: Mode, cells: &[Cell]) {
     heading(parser, mode, cells);
     let mut rest = cells;
     while !rest.is_empty() {
-        let (row, next) = rest.split_at(rest.len().min(ROW));
+        let (row, next) = rest.split_at(row_length(rest.len()));
         draw_row(row, next.first().is_none_or(|cell| cell.begins));
         rest = next;
     }
