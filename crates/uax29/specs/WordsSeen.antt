@@ -7,7 +7,20 @@ use Rattle.classes.specs.WordBreak.{Other, CR, LF, ZWJ, WSegSpace, HL, NU, SQ, D
 use Rattle.records.specs.Text.{cell}
 use Rattle.uax29.specs.declared.words.Seen.{Seen}
 use Rattle.uax29.specs.declared.words.Around.{Around}
+use Rattle.uax29.specs.declared.words.Set.{Set}
+use Rattle.uax29.specs.declared.words.Set.TheVariants.{Only, Newlines, Ignored, Letters, MidLetters, MidNumbers, Extendable, Extended}
 use Rattle.uax29.specs.Words.{AHLetter, newlines, ignored, mid_letters, mid_numbers, extendable, extended}
+
+-- the sets by their names
+abbrev pub holds : Set → ℕ → Bool
+holds (Only class) x = eqb x class
+holds Newlines x = member newlines x
+holds Ignored x = member ignored x
+holds Letters x = member AHLetter x
+holds MidLetters x = member mid_letters x
+holds MidNumbers x = member mid_numbers x
+holds Extendable x = member extendable x
+holds Extended x = member extended x
 
 unfoldable pub from_WB15 : ℕ → Bool → Bool
 from_WB15 b odd =

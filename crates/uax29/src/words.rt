@@ -5,7 +5,7 @@ ghost use Rattle.std.specs.Prelude.{◌≡◌, ◌&&◌, not, ◌+◌, ◌-◌, 
 ghost use Rattle.basics.specs.Sets.{member};
 ghost use Rattle.classes.specs.WordBreak as WordBreak;
 ghost use Rattle.uax29.specs.Words.{AHLetter, newlines, ignored, mid_letters, mid_numbers, extendable, extended, boundary_cells};
-ghost use Rattle.uax29.specs.WordsSeen.{around, after_WB4, after_WB7c, from_WB3c, decided, has_x};
+ghost use Rattle.uax29.specs.WordsSeen.{around, after_WB4, after_WB7c, from_WB3c, decided, has_x, holds};
 ghost use Rattle.uax29.specs.WordsSeen as WordsSeen;
 
 use classes::word_break::*;
@@ -32,7 +32,37 @@ struct Around {
     odd: bool,
 }
 
-// The sets of classes that the rules name.
+// The sets of classes that the rules name, and a set of one class.
+#[derive(Clone, Copy, Debug, PartialEq, Eq)]
+pub enum Set {
+    Only(u8),
+    Newlines,
+    Ignored,
+    Letters,
+    MidLetters,
+    MidNumbers,
+    Extendable,
+    Extended,
+}
+
+impl Set {
+    // Whether the class is of the set.
+    pub fn has(self, class: u8) -> bool
+        ensures { result ≡ holds self class }
+    {
+        match self {
+            Set::Only(only) => class == only,
+            Set::Newlines => is_newline(class),
+            Set::Ignored => is_ignored(class),
+            Set::Letters => is_letter(class),
+            Set::MidLetters => is_mid_letter(class),
+            Set::MidNumbers => is_mid_number(class),
+            Set::Extendable => is_extendable(class),
+            Set::Extended => is_extended(class),
+        }
+    }
+}
+
 fn is_newline(class: u8) -> bool
     ensures { result ≡ member newlines class }
 {
