@@ -95,7 +95,8 @@ pub fn judge_signs(parser: Parser, columns: &Columns) -> Result<(), Refusal>
     Ok(())
 }
 
-// 3 to 7, part by part and record by record.
+// 3 to 7, part by part and record by record. In a frame of its own, so that the check of an accepted text has none of it on its stack.
+#[inline(never)]
 pub fn judge_each(parser: Parser, columns: &Columns) -> Result<(), Refusal>
     ensures { result ≡ each_verdict parser (lent columns.now) }
 {

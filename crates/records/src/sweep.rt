@@ -194,8 +194,7 @@ pub fn passes(columns: &Columns) -> bool
 }
 
 // The same for one parser, of a text with U+034F, which most classes do not bar: to judge it record by record takes several times as
-// long. In a frame of its own: the check of most texts has none of it on its stack.
-#[inline(never)]
+// long.
 pub fn passes_for(parser: Parser, columns: &Columns) -> bool
     ensures { result ≡ true → PassesFor parser (lent columns.now) }
 {
