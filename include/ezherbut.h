@@ -5,9 +5,9 @@
  * written overlaps no other column of the call. Nothing is kept between two calls.
  *
  * Stack. A call on a label of up to 256 tokens fits in 16 KiB, a call on any text in 256 KiB. Measured on x86-64: 14.2 KB for a label
- * (ezh_step; ezh_run 13.0 KB, simple 1.4), 110 KB for the longest text, of which 96 KiB hold its tokens; the check needs 1.1 KB, the words,
- * the lines and UAX #29's clusters less than 1 KB. ezh_read_properties needs 148 KB, whatever it is lent, of which 144 KiB hold the ranges of
- * one call; ezh_lookup less than 1 KB. bench/stack measures it anew.
+ * (ezh_step; ezh_run 13.0 KB, simple 1.3), 110 KB for the longest text, of which 96 KiB hold its tokens; the check, the words, the lines
+ * and UAX #29's clusters need less than 1 KB, the check of a refused text 1.2 KB. ezh_read_properties needs 148 KB, whatever it is lent, of
+ * which 144 KiB hold the ranges of one call; ezh_lookup less than 1 KB. bench/stack measures it anew.
  *
  * A text is 18 columns, in this order in every call. Fourteen with a cell for each record: scalar, cluster break, USE class, Myanmar
  * class, category, word class, then the marks (0 no, 1 yes) emoji for the simple, the Myanmar and the complex parser, pictograph,
